@@ -1,0 +1,34 @@
+//! Compares the proved library with a second program that is written from the papers. Prints what was compared and how much of it, and fails where
+//! anything differs. With the word `vectors` it runs the published vectors alone.
+
+mod library;
+mod random;
+mod tally;
+mod vectors;
+mod word;
+mod words;
+
+use std::process::ExitCode;
+use tally::Tally;
+
+fn main() -> ExitCode {
+    let only_vectors = match std::env::args().nth(1).as_deref() {
+        None => false,
+        Some("vectors") => true,
+        Some(other) => {
+            eprintln!("compare: unknown word '{other}'; there is 'vectors', or nothing for all comparisons");
+            return ExitCode::from(2);
+        }
+    };
+    let mut tally = Tally::default();
+    words::vectors(&mut tally);
+    if !only_vectors {
+        words::wrong_words_are_seen(&mut tally);
+        words::single_bytes(&mut tally);
+        words::random_strings(&mut tally);
+        words::law(&mut tally);
+        words::burst(&mut tally);
+        words::whole_message(&mut tally);
+    }
+    tally.finish()
+}

@@ -1,0 +1,6 @@
+pub mod Xor
+pub mod Bytes
+pub mod Shift
+pub mod Run
+pub mod Remainder
+pub mod Facts

@@ -1,0 +1,5 @@
+pub mod Bytes
+pub mod Polynomial
+pub mod Generators
+pub mod Word
+pub mod Facts
