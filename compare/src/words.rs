@@ -124,7 +124,9 @@ pub fn random_strings(tally: &mut Tally) {
             });
         }
     }
-    tally.told("random strings: 100000 of 0 to 252 bytes, cut at random into two runs, both widths");
+    tally.told(&format!(
+        "random strings: 100000 of 0 to 252 bytes, cut at random into two runs, both widths (seed {SEED:#x})"
+    ));
 }
 
 fn xor(a: &[u8], b: &[u8]) -> Vec<u8> {
