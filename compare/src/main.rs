@@ -1,12 +1,24 @@
 //! Compares the proved library with a second program that is written from the papers. Prints what was compared and how much of it, and fails where
 //! anything differs. With the word `vectors` it runs the published vectors alone.
 
+mod case;
+mod check;
+mod check_cases;
+mod draft;
 mod library;
+mod program;
 mod random;
+mod random_cases;
+mod samples;
 mod tally;
+mod telegram;
+mod telegrams;
 mod vectors;
 mod word;
 mod words;
+mod worked;
+mod write_cases;
+mod wrong;
 
 use std::process::ExitCode;
 use tally::Tally;
@@ -22,6 +34,7 @@ fn main() -> ExitCode {
     };
     let mut tally = Tally::default();
     words::vectors(&mut tally);
+    telegrams::vectors(&mut tally);
     if !only_vectors {
         words::wrong_words_are_seen(&mut tally);
         words::single_bytes(&mut tally);
@@ -29,6 +42,10 @@ fn main() -> ExitCode {
         words::law(&mut tally);
         words::burst(&mut tally);
         words::whole_message(&mut tally);
+        telegrams::laid_out_by_hand(&mut tally);
+        telegrams::wrong_programs_are_seen(&mut tally);
+        telegrams::systematic(&mut tally);
+        telegrams::random(&mut tally);
     }
     tally.finish()
 }

@@ -24,7 +24,7 @@ fn library_cut(generator: Generator, message: &[u8], cut: usize) -> u64 {
     library_word(generator, &message[..cut], &message[cut..])
 }
 
-fn hex(bytes: &[u8]) -> String {
+pub fn hex(bytes: &[u8]) -> String {
     bytes.iter().map(|b| format!("{b:02X}")).collect::<Vec<_>>().join(" ")
 }
 

@@ -1,0 +1,13 @@
+pub mod Choice
+pub mod Numbers
+pub mod Levels
+pub mod Commands
+pub mod Layout
+pub mod Ends
+pub mod Over
+pub mod Telegrams
+pub mod Values
+pub mod Writers
+pub mod Check
+pub mod NetData
+pub mod Facts

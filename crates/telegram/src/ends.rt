@@ -1,0 +1,84 @@
+// An end of a connection, and the implicit bytes of what it writes and takes.
+ghost use mathlib.Core.Path.{_≡_};
+ghost use Rattle.telegram.specs.Ends.{isLevel, inRange, implicit, sending, receiving};
+use crate::End;
+
+// Whether there is such a level.
+pub fn is_level(level: u32) -> bool
+    ensures { λ b. ⌜ b ≡ isLevel level ⌝ }
+{
+    if level == 4 {
+        return true;
+    }
+    level == 2
+}
+
+// Whether addresses, SAPs and level are in range.
+pub fn in_range(end: End) -> bool
+    ensures { λ b. ⌜ b ≡ inRange end ⌝ }
+{
+    if 126 < end.own {
+        return false;
+    }
+    if 126 < end.partner {
+        return false;
+    }
+    if 62 < end.partner_sap {
+        return false;
+    }
+    if 62 < end.local_sap {
+        return false;
+    }
+    is_level(end.level)
+}
+
+// The eight implicit bytes, with the addresses and SAPs as the telegram travels.
+fn implicit_bytes(
+    count: usize,
+    receiver: u32,
+    sender: u32,
+    dsap: u32,
+    ssap: u32,
+    number: u32,
+) -> [u8; 8]
+    ensures { λ r. ⌜ r ≡ implicit count receiver sender dsap ssap number ⌝ }
+{
+    [
+        (count % 256) as u8,
+        (receiver % 256) as u8,
+        (sender % 256) as u8,
+        (dsap % 256) as u8,
+        (ssap % 256) as u8,
+        (number / 256 % 256) as u8,
+        (number / 256 / 256 % 256) as u8,
+        (number / 256 / 256 / 256 % 256) as u8,
+    ]
+}
+
+// Of what this end writes: the partner's SAP is the destination, its own the source.
+pub(crate) fn sending_bytes(end: End, number: u32, count: usize) -> [u8; 8]
+    ensures { λ r. ⌜ r ≡ sending end number count ⌝ }
+{
+    implicit_bytes(
+        count,
+        end.partner,
+        end.own,
+        end.partner_sap,
+        end.local_sap,
+        number,
+    )
+}
+
+// Of what this end takes: its own SAP is the destination, the partner's the source.
+pub(crate) fn receiving_bytes(end: End, number: u32, count: usize) -> [u8; 8]
+    ensures { λ r. ⌜ r ≡ receiving end number count ⌝ }
+{
+    implicit_bytes(
+        count,
+        end.own,
+        end.partner,
+        end.local_sap,
+        end.partner_sap,
+        number,
+    )
+}

@@ -1,0 +1,42 @@
+// Everything that differs by level. A level other than 4 is taken as 2 here; which levels there are is `ends::is_level`.
+ghost use mathlib.Core.Path.{_≡_};
+ghost use Rattle.telegram.specs.Levels.{levelOf, topBits, wordLength, added};
+use crate::Level;
+
+// The level that a command's top two bits give.
+pub fn level_of(command: u8) -> Level
+    ensures { λ l. ⌜ l ≡ levelOf command ⌝ }
+{
+    let top = command / 64;
+    if top == 2 {
+        return Level::Sl(4);
+    }
+    if top == 0 {
+        return Level::Sl(2);
+    }
+    if top == 3 {
+        return Level::Sl(0);
+    }
+    Level::Unassigned
+}
+
+// The top two bits of the level's commands.
+pub(crate) fn top_bits(level: u32) -> u32
+    ensures { λ b. ⌜ b ≡ topBits level ⌝ }
+{
+    if level == 4 { 2 } else { 0 }
+}
+
+// How many bytes the level's check word has.
+pub(crate) fn word_length(level: u32) -> usize
+    ensures { λ n. ⌜ n ≡ wordLength level ⌝ }
+{
+    if level == 4 { 6 } else { 4 }
+}
+
+// What authentication adds to the number received.
+pub(crate) fn added_number(level: u32) -> u32
+    ensures { λ n. ⌜ n ≡ added level ⌝ }
+{
+    if level == 4 { 1 } else { 2 }
+}

@@ -1,0 +1,91 @@
+// What stands on the wire at levels 4 and 2: the seven telegrams of SUBSET-057 5.2, their writers, and the check of a received one. No phase, no time, no
+// table. The definitions behind the contracts are in specs/, one file for each section of the paper.
+mod check_telegram;
+mod commands;
+mod ends;
+mod layout;
+mod levels;
+mod numbers;
+mod parts;
+mod put;
+mod values;
+mod write;
+
+pub use check_telegram::answer_number;
+pub use check_telegram::checked;
+pub use commands::is_data;
+pub use commands::kind_of;
+pub use ends::in_range;
+pub use ends::is_level;
+pub use layout::LONGEST;
+pub use levels::level_of;
+pub use parts::net_data;
+pub use parts::net_part;
+pub use values::good_idle;
+pub use values::good_type;
+pub use values::listed_reason;
+pub use write::write_acknowledgement;
+pub use write::write_authentication;
+pub use write::write_confirm;
+pub use write::write_data;
+pub use write::write_disconnect;
+pub use write::write_idle;
+pub use write::write_request;
+
+// One end of a connection, by the numbers that its writers and its check take from the caller and never from a frame.
+pub struct End {
+    pub own: u32,
+    pub partner: u32,
+    pub partner_sap: u32,
+    pub local_sap: u32,
+    pub level: u32,
+}
+
+// The level that a command's top two bits give: 4, 2 or 0, or none.
+pub enum Level {
+    Sl(u32),
+    Unassigned,
+}
+
+// What a command's low six bits name.
+pub enum Kind {
+    Request,
+    Confirm,
+    Authentication,
+    Acknowledgement,
+    Disconnect,
+    Idle,
+    Data,
+    Unknown,
+}
+
+// What a writer did: answer 0 and the telegram's length, or a refusal and 0.
+#[repr(C)]
+pub struct Written {
+    pub answer: u32,
+    pub length: u32,
+}
+
+// The clauses of the check, in their order.
+pub enum Clause {
+    Level,
+    Command,
+    Length,
+    Number,
+    Fields,
+    Word,
+}
+
+// What the check found.
+pub enum Check {
+    Passes,
+    Failed(Clause),
+    Refused(u32),
+}
+
+// Where the net data of a telegram lie.
+#[repr(C)]
+pub struct Part {
+    pub start: u32,
+    pub count: u32,
+}

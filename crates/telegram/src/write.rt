@@ -1,0 +1,242 @@
+// One writer for each telegram. Each writes at the front of the lent buffer and leaves the bytes behind the telegram as they were; when it refuses, it
+// leaves the whole buffer as it was.
+ghost use mathlib.Core.Path.{_≡_};
+ghost use mathlib.Core.List.{[], _∷_};
+ghost use Prim.Native.Nat.{_+_, _≤_, _<_};
+ghost use lib.ListN.{length};
+ghost use Rattle.telegram.specs.Levels.{wordLength};
+ghost use Rattle.telegram.specs.Layout.{layout, fieldBytes};
+ghost use Rattle.telegram.specs.Telegrams.{body, sealed, versionAndBus, authenticationNumber};
+ghost use Rattle.telegram.specs.Writers.{answerOf, leftBy, refusal, connectAllowed, disconnectAllowed, dataAllowed};
+ghost use Rattle.telegram.specs.Writers.{writesRequest, writesConfirm, writesAuthentication, writesAcknowledgement};
+ghost use Rattle.telegram.specs.Writers.{writesDisconnect, writesIdle, writesData};
+ghost use Rattle.telegram.specs.Writers.Outcome.{wrote};
+use crate::End;
+use crate::Kind;
+use crate::Written;
+use crate::commands::ACKNOWLEDGEMENT;
+use crate::commands::AUTHENTICATION;
+use crate::commands::CONFIRM;
+use crate::commands::DISCONNECT;
+use crate::commands::IDLE;
+use crate::commands::REQUEST;
+use crate::commands::is_data;
+use crate::ends::in_range;
+use crate::ends::sending_bytes;
+use crate::layout::LONGEST;
+use crate::layout::most_net;
+use crate::levels::added_number;
+use crate::levels::top_bits;
+use crate::levels::word_length;
+use crate::put::copy_at;
+use crate::put::put_word;
+use crate::values::good_idle;
+use crate::values::good_type;
+use crate::values::listed_reason;
+
+// The version that we write, and the dual bus byte.
+const VERSION_X: u8 = 3;
+
+const VERSION_Y: u8 = 0;
+
+const VERSION_Z: u8 = 0;
+
+const DUAL_BUS: u8 = 0;
+
+// The first refusal that holds, or 0.
+fn first_refusal(end: End, room: usize, allowed: bool) -> u32
+    ensures { λ n. ⌜ n ≡ refusal end room allowed ⌝ }
+{
+    if !in_range(end) {
+        return 1;
+    }
+    if room < LONGEST {
+        return 4;
+    }
+    if allowed { 0 } else { 5 }
+}
+
+// Writes a telegram by the command's low six bits, the bytes of its fixed fields, and its net data.
+fn put_telegram(
+    out: &mut [u8],
+    end: End,
+    number: u32,
+    low: u32,
+    fields: &[u8],
+    net: &[u8],
+) -> Written
+    requires { ⌜ (244 ≤ length (now out)) × (2 + length (now fields) + length (now net) + wordLength (end .level) ≤ 244) × (low < 64) ⌝ }
+    ensures { λ r. ⌜ (r ≡ answerOf (wrote (sealed end number (body (end .level) number low (now (fields .entry)) (now (net .entry)))))) × (now (out .exit) ≡ leftBy (wrote (sealed end number (body (end .level) number low (now (fields .entry)) (now (net .entry))))) (now (out .entry))) ⌝ }
+{
+    let command = top_bits(end.level) * 64 + low;
+    let head = [(number % 256) as u8, command as u8];
+    let behind = 2 + fields.len();
+    let n = behind + net.len();
+    let count = n + word_length(end.level);
+    copy_at(out, 0, &head);
+    copy_at(out, 2, fields);
+    copy_at(out, behind, net);
+    let implicit = sending_bytes(end, number, count);
+    put_word(out, n, end.level, &implicit);
+    Written {
+        answer: 0,
+        length: count as u32,
+    }
+}
+
+// The fixed fields of a connect request or confirm: random number, idle time, version, dual bus.
+fn connect_fields(random: u32, time: u32) -> [u8; 10]
+    ensures { λ r. ⌜ r ≡ fieldBytes (layout Kind.Request) (random ∷ time ∷ versionAndBus) ⌝ }
+{
+    [
+        (random % 256) as u8,
+        (random / 256 % 256) as u8,
+        (random / 256 / 256 % 256) as u8,
+        (random / 256 / 256 / 256 % 256) as u8,
+        (time % 256) as u8,
+        (time / 256 % 256) as u8,
+        VERSION_X,
+        VERSION_Y,
+        VERSION_Z,
+        DUAL_BUS,
+    ]
+}
+
+// The fixed field of an authentication or its acknowledgement: the number received, changed as the level asks.
+fn authentication_fields(level: u32, received: u32) -> [u8; 4]
+    ensures { λ r. ⌜ r ≡ fieldBytes (layout Kind.Authentication) (authenticationNumber level received ∷ []) ⌝ }
+{
+    let number = std::num::wrapping_add_u32(received, added_number(level));
+    [
+        (number % 256) as u8,
+        (number / 256 % 256) as u8,
+        (number / 256 / 256 % 256) as u8,
+        (number / 256 / 256 / 256 % 256) as u8,
+    ]
+}
+
+// Whether a connect request or confirm may carry these values.
+fn connect_allowed(time: u32, count: usize, level: u32) -> bool
+    ensures { λ b. ⌜ b ≡ connectAllowed time count level ⌝ }
+{
+    if !good_idle(time) {
+        return false;
+    }
+    count <= most_net(Kind::Request, level)
+}
+
+// Whether a disconnect may carry these values.
+fn disconnect_allowed(new_setup: u32, reason: u32, count: usize, level: u32) -> bool
+    ensures { λ b. ⌜ b ≡ disconnectAllowed «new_setup» reason count level ⌝ }
+{
+    if !good_type(new_setup) {
+        return false;
+    }
+    if !listed_reason(reason) {
+        return false;
+    }
+    count <= most_net(Kind::Disconnect, level)
+}
+
+// Whether a data telegram may carry these values.
+fn data_allowed(low: u32, count: usize, level: u32) -> bool
+    ensures { λ b. ⌜ b ≡ dataAllowed low count level ⌝ }
+{
+    if !is_data(low) {
+        return false;
+    }
+    count <= most_net(Kind::Data, level)
+}
+
+// Connect request (5.2.1). The random number is the telegram's sequence number.
+pub fn write_request(out: &mut [u8], end: End, random: u32, time: u32, net: &[u8]) -> Written
+    ensures { λ r. ⌜ (r ≡ answerOf (writesRequest end random time (now (net .entry)) (now (out .entry)))) × (now (out .exit) ≡ leftBy (writesRequest end random time (now (net .entry)) (now (out .entry))) (now (out .entry))) ⌝ }
+{
+    let allowed = connect_allowed(time, net.len(), end.level);
+    let answer = first_refusal(end, out.len(), allowed);
+    if answer != 0 {
+        return Written { answer, length: 0 };
+    }
+    let fields = connect_fields(random, time);
+    put_telegram(out, end, random, REQUEST, &fields, net)
+}
+
+// Connect confirm (5.2.2).
+pub fn write_confirm(out: &mut [u8], end: End, random: u32, time: u32, net: &[u8]) -> Written
+    ensures { λ r. ⌜ (r ≡ answerOf (writesConfirm end random time (now (net .entry)) (now (out .entry)))) × (now (out .exit) ≡ leftBy (writesConfirm end random time (now (net .entry)) (now (out .entry))) (now (out .entry))) ⌝ }
+{
+    let allowed = connect_allowed(time, net.len(), end.level);
+    let answer = first_refusal(end, out.len(), allowed);
+    if answer != 0 {
+        return Written { answer, length: 0 };
+    }
+    let fields = connect_fields(random, time);
+    put_telegram(out, end, random, CONFIRM, &fields, net)
+}
+
+// Authentication (5.2.3), from the random number RECEIVED at set-up.
+pub fn write_authentication(out: &mut [u8], end: End, number: u32, received: u32) -> Written
+    ensures { λ r. ⌜ (r ≡ answerOf (writesAuthentication end number received (now (out .entry)))) × (now (out .exit) ≡ leftBy (writesAuthentication end number received (now (out .entry))) (now (out .entry))) ⌝ }
+{
+    let answer = first_refusal(end, out.len(), true);
+    if answer != 0 {
+        return Written { answer, length: 0 };
+    }
+    let fields = authentication_fields(end.level, received);
+    put_telegram(out, end, number, AUTHENTICATION, &fields, b"")
+}
+
+// Authentication acknowledgement (5.2.4), from the random number RECEIVED at set-up.
+pub fn write_acknowledgement(out: &mut [u8], end: End, number: u32, received: u32) -> Written
+    ensures { λ r. ⌜ (r ≡ answerOf (writesAcknowledgement end number received (now (out .entry)))) × (now (out .exit) ≡ leftBy (writesAcknowledgement end number received (now (out .entry))) (now (out .entry))) ⌝ }
+{
+    let answer = first_refusal(end, out.len(), true);
+    if answer != 0 {
+        return Written { answer, length: 0 };
+    }
+    let fields = authentication_fields(end.level, received);
+    put_telegram(out, end, number, ACKNOWLEDGEMENT, &fields, b"")
+}
+
+// Disconnect (5.2.5). A new set-up is desired, 1, or the disconnection is final, 0.
+pub fn write_disconnect(
+    out: &mut [u8],
+    end: End,
+    number: u32,
+    new_setup: u32,
+    reason: u32,
+    text: &[u8],
+) -> Written
+    ensures { λ r. ⌜ (r ≡ answerOf (writesDisconnect end number «new_setup» reason (now (text .entry)) (now (out .entry)))) × (now (out .exit) ≡ leftBy (writesDisconnect end number «new_setup» reason (now (text .entry)) (now (out .entry))) (now (out .entry))) ⌝ }
+{
+    let allowed = disconnect_allowed(new_setup, reason, text.len(), end.level);
+    let answer = first_refusal(end, out.len(), allowed);
+    if answer != 0 {
+        return Written { answer, length: 0 };
+    }
+    let fields = [(new_setup % 256) as u8, (reason % 256) as u8];
+    put_telegram(out, end, number, DISCONNECT, &fields, text)
+}
+
+// Idle (5.2.6).
+pub fn write_idle(out: &mut [u8], end: End, number: u32) -> Written
+    ensures { λ r. ⌜ (r ≡ answerOf (writesIdle end number (now (out .entry)))) × (now (out .exit) ≡ leftBy (writesIdle end number (now (out .entry))) (now (out .entry))) ⌝ }
+{
+    let answer = first_refusal(end, out.len(), true);
+    if answer != 0 {
+        return Written { answer, length: 0 };
+    }
+    put_telegram(out, end, number, IDLE, b"", b"")
+}
+
+// Data (5.2.7), with the command's low six bits.
+pub fn write_data(out: &mut [u8], end: End, number: u32, low: u32, net: &[u8]) -> Written
+    ensures { λ r. ⌜ (r ≡ answerOf (writesData end number low (now (net .entry)) (now (out .entry)))) × (now (out .exit) ≡ leftBy (writesData end number low (now (net .entry)) (now (out .entry))) (now (out .entry))) ⌝ }
+{
+    let allowed = data_allowed(low, net.len(), end.level);
+    let answer = first_refusal(end, out.len(), allowed);
+    if answer != 0 {
+        return Written { answer, length: 0 };
+    }
+    put_telegram(out, end, number, low, b"", net)
+}
