@@ -6,3 +6,6 @@ pub mod Sealing
 pub mod Refusals
 pub mod Agreement
 pub mod Inside
+pub mod ReadBack
+pub mod Taken
+pub mod Apart

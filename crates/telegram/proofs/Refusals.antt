@@ -12,7 +12,7 @@ use borrow.Author.Tests.{leb-true, eqb-true, ne-eqb}
 use Rattle.telegram.specs.Choice.{pick, all}
 use Rattle.telegram.specs.Levels.{wordLength}
 use Rattle.telegram.specs.Commands.{isData, kindOf, known}
-use Rattle.telegram.specs.Layout.{longest, header, most, onBus, suits}
+use Rattle.telegram.specs.Layout.{longest, header, most, onBus, suits, fieldBytes}
 use Rattle.telegram.specs.Ends.{isLevel, inRange}
 use Rattle.telegram.specs.Values.{goodIdle, goodType, listedReason}
 use Rattle.telegram.specs.Telegrams.{body, sealed}
@@ -31,22 +31,32 @@ unfolding pick
 both-true true b e = (refl, e)
 both-true false b e = let z : _≡_ {A = ℕ} 0 1 = cc in absurd (omega arith)
 
-either-true : (a b : Bool) → pick a true b ≡ true → (a ≡ true) ⊎ (b ≡ true)
+pub either-true : (a b : Bool) → pick a true b ≡ true → (a ≡ true) ⊎ (b ≡ true)
 unfolding pick
 either-true true b e = inl refl
 either-true false b e = inr e
 
 -- what a writer answers and leaves when it refuses
-pub refusing : (n m : ℕ) (t d : List ℕ) → n ≡ m → (n ≡ 0 → ⊥)
-    → (_≡_ {A = Written} (record { answer = n; length = 0 }) (answerOf (unless m t))) × (d ≡ leftBy (unless m t) d)
-refusing zero m t d e h = absurd (h refl)
-refusing (suc n) m t d e h = rw (← e) (refl, refl)
+pub refusing : (n : ℕ) (t d : List ℕ) → (n ≡ 0 → ⊥)
+    → (_≡_ {A = Written} (record { answer = n; length = 0 }) (answerOf (unless n t))) × (d ≡ leftBy (unless n t) d)
+refusing zero t d h = absurd (h refl)
+refusing (suc n) t d h = (refl, refl)
 
--- and when it writes: the fields are those that the definition has
-pub writing : (e : End) (number low n m : ℕ) (f g net d x : List ℕ) (r : Written) → n ≡ m → n ≡ 0 → f ≡ g
-    → (r ≡ answerOf (wrote (sealed e number (body (e .level) number low f net)))) × (x ≡ leftBy (wrote (sealed e number (body (e .level) number low f net))) d)
+-- and when it writes
+pub writing : (n : ℕ) (t d x : List ℕ) (r : Written) → n ≡ 0 → (r ≡ answerOf (wrote t)) × (x ≡ leftBy (wrote t) d)
+    → (r ≡ answerOf (unless n t)) × (x ≡ leftBy (unless n t) d)
+writing n t d x r z w = rw z w
+
+-- with the refusal and the fields that the definition has
+pub as-defined : (e : End) (number low n m : ℕ) (f g net d x : List ℕ) (r : Written) → n ≡ m → f ≡ g
+    → (r ≡ answerOf (unless n (sealed e number (body (e .level) number low f net)))) × (x ≡ leftBy (unless n (sealed e number (body (e .level) number low f net))) d)
     → (r ≡ answerOf (unless m (sealed e number (body (e .level) number low g net)))) × (x ≡ leftBy (unless m (sealed e number (body (e .level) number low g net))) d)
-writing e number low n m f g net d x r p z q w = rw (← p, z, ← q) w
+as-defined e number low n m f g net d x r p q w = rw (← p, ← q) w
+
+-- a telegram without values has no fixed fields
+pub no-fields : (ws : List ℕ) → [] ≡ fieldBytes ws []
+no-fields [] = refl
+no-fields (w ∷ ws) = refl
 
 none : (a b c : Bool) → _≡_ {A = ℕ} (pick a (pick b (pick c 0 5) 4) 1) 0 → (a ≡ true) × (b ≡ true) × (c ≡ true)
 unfolding pick

@@ -43,34 +43,34 @@ Confirm-taken =
 -- The others with the number that they were written with.
 abbrev pub Authentication-taken : Type 0
 Authentication-taken =
-    (e : End) (number received : ℕ) (d t : List ℕ) → number < 2 ^ 32 → writesAuthentication e number received d ≡ wrote t
+    (e : End) (number received : ℕ) (d t : List ℕ) → writesAuthentication e number received d ≡ wrote t
     → Taken e number t Authentication (authenticationNumber (e .level) received ∷ []) []
 
 abbrev pub Acknowledgement-taken : Type 0
 Acknowledgement-taken =
-    (e : End) (number received : ℕ) (d t : List ℕ) → number < 2 ^ 32 → writesAcknowledgement e number received d ≡ wrote t
+    (e : End) (number received : ℕ) (d t : List ℕ) → writesAcknowledgement e number received d ≡ wrote t
     → Taken e number t Acknowledgement (authenticationNumber (e .level) received ∷ []) []
 
 abbrev pub Disconnect-taken : Type 0
 Disconnect-taken =
-    (e : End) (number type reason : ℕ) (text d t : List ℕ) → number < 2 ^ 32 → Bytes text → writesDisconnect e number type reason text d ≡ wrote t
+    (e : End) (number type reason : ℕ) (text d t : List ℕ) → Bytes text → writesDisconnect e number type reason text d ≡ wrote t
     → Taken e number t Disconnect (type ∷ reason ∷ []) text
 
 abbrev pub Idle-taken : Type 0
-Idle-taken = (e : End) (number : ℕ) (d t : List ℕ) → number < 2 ^ 32 → writesIdle e number d ≡ wrote t → Taken e number t Idle [] []
+Idle-taken = (e : End) (number : ℕ) (d t : List ℕ) → writesIdle e number d ≡ wrote t → Taken e number t Idle [] []
 
 abbrev pub Data-taken : Type 0
 Data-taken =
-    (e : End) (number low : ℕ) (net d t : List ℕ) → number < 2 ^ 32 → Bytes net → writesData e number low net d ≡ wrote t
+    (e : End) (number low : ℕ) (net d t : List ℕ) → Bytes net → writesData e number low net d ≡ wrote t
     → Taken e number t Data [] net
 
 -- Demand 3 at this layer: what tells two ends apart.
 
--- Two ends of one own address whose partner address and SAPs are not all the same.
+-- Partner address and SAPs are not all the same.
 abbrev pub Other-partner : End → End → Type 0
 Other-partner e f = (e .partner ≡ f .partner → e .«partner_sap» ≡ f .«partner_sap» → e .«local_sap» ≡ f .«local_sap» → ⊥)
 
--- At level 4 no telegram passes both checks, whatever numbers are expected.
+-- At level 4 no telegram passes the checks of two ends of one own address, whatever numbers are expected.
 abbrev pub Apart-at-4 : Type 0
 Apart-at-4 =
     (e f : End) (m n : ℕ) (t : List ℕ) → Bytes t → e .level ≡ 4 → f .level ≡ 4 → e .own ≡ f .own → Other-partner e f
@@ -79,7 +79,7 @@ Apart-at-4 =
 -- At level 2 none does when the implicit bytes of the numbers used differ only within four neighbouring places ..
 abbrev pub Apart-at-2 : Type 0
 Apart-at-2 =
-    (e f : End) (m n : ℕ) (t : List ℕ) → Bytes t → e .level ≡ 2 → f .level ≡ 2 → e .own ≡ f .own → Other-partner e f
+    (e f : End) (m n : ℕ) (t : List ℕ) → Bytes t → e .level ≡ 2 → f .level ≡ 2 → Other-partner e f
     → Within 4 (receiving e (usedFor m t) (length t)) (receiving f (usedFor n t) (length t))
     → checkOf e m t ≡ Passes → checkOf f n t ≡ Passes → ⊥
 

@@ -16,7 +16,7 @@ pub(crate) const DISCONNECT: u32 = 0x05;
 pub(crate) const IDLE: u32 = 0x06;
 
 // Whether these low six bits name a data telegram.
-pub fn is_data(low: u32) -> bool
+pub(crate) fn is_data(low: u32) -> bool
     ensures { λ b. ⌜ b ≡ isData low ⌝ }
 {
     if low == 0x09 {
@@ -29,7 +29,7 @@ pub fn is_data(low: u32) -> bool
 }
 
 // What low six bits name.
-pub fn kind_of(low: u32) -> Kind
+pub(crate) fn kind_of(low: u32) -> Kind
     ensures { λ k. ⌜ k ≡ kindOf low ⌝ }
 {
     if low == REQUEST {

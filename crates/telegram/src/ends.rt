@@ -4,7 +4,7 @@ ghost use Rattle.telegram.specs.Ends.{isLevel, inRange, implicit, sendin
 use crate::End;
 
 // Whether there is such a level.
-pub fn is_level(level: u32) -> bool
+pub(crate) fn is_level(level: u32) -> bool
     ensures { λ b. ⌜ b ≡ isLevel level ⌝ }
 {
     if level == 4 {
@@ -14,7 +14,7 @@ pub fn is_level(level: u32) -> bool
 }
 
 // Whether addresses, SAPs and level are in range.
-pub fn in_range(end: End) -> bool
+pub(crate) fn in_range(end: End) -> bool
     ensures { λ b. ⌜ b ≡ inRange end ⌝ }
 {
     if 126 < end.own {
@@ -59,26 +59,18 @@ fn implicit_bytes(
 pub(crate) fn sending_bytes(end: End, number: u32, count: usize) -> [u8; 8]
     ensures { λ r. ⌜ r ≡ sending end number count ⌝ }
 {
-    implicit_bytes(
-        count,
-        end.partner,
-        end.own,
-        end.partner_sap,
-        end.local_sap,
-        number,
-    )
+    let receiver = end.partner;
+    let dsap = end.partner_sap;
+    let ssap = end.local_sap;
+    implicit_bytes(count, receiver, end.own, dsap, ssap, number)
 }
 
 // Of what this end takes: its own SAP is the destination, the partner's the source.
 pub(crate) fn receiving_bytes(end: End, number: u32, count: usize) -> [u8; 8]
     ensures { λ r. ⌜ r ≡ receiving end number count ⌝ }
 {
-    implicit_bytes(
-        count,
-        end.own,
-        end.partner,
-        end.local_sap,
-        end.partner_sap,
-        number,
-    )
+    let sender = end.partner;
+    let dsap = end.local_sap;
+    let ssap = end.partner_sap;
+    implicit_bytes(count, end.own, sender, dsap, ssap, number)
 }

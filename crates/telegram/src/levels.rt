@@ -4,7 +4,7 @@ ghost use Rattle.telegram.specs.Levels.{levelOf, topBits, wordLength, ad
 use crate::Level;
 
 // The level that a command's top two bits give.
-pub fn level_of(command: u8) -> Level
+pub(crate) fn level_of(command: u8) -> Level
     ensures { λ l. ⌜ l ≡ levelOf command ⌝ }
 {
     let top = command / 64;

@@ -13,17 +13,9 @@ mod write;
 
 pub use check_telegram::answer_number;
 pub use check_telegram::checked;
-pub use commands::is_data;
-pub use commands::kind_of;
-pub use ends::in_range;
-pub use ends::is_level;
 pub use layout::LONGEST;
-pub use levels::level_of;
 pub use parts::net_data;
 pub use parts::net_part;
-pub use values::good_idle;
-pub use values::good_type;
-pub use values::listed_reason;
 pub use write::write_acknowledgement;
 pub use write::write_authentication;
 pub use write::write_confirm;

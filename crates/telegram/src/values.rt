@@ -3,7 +3,7 @@ ghost use mathlib.Core.Path.{_≡_};
 ghost use Rattle.telegram.specs.Values.{goodIdle, goodType, listedReason, goodDualBus};
 
 // Whether an idle time is 0 or a multiple of 100 in 100..65500.
-pub fn good_idle(time: u32) -> bool
+pub(crate) fn good_idle(time: u32) -> bool
     ensures { λ b. ⌜ b ≡ goodIdle time ⌝ }
 {
     if 65500 < time {
@@ -13,14 +13,14 @@ pub fn good_idle(time: u32) -> bool
 }
 
 // Whether a disconnect's type is 0, final, or 1, not final.
-pub fn good_type(kind: u32) -> bool
+pub(crate) fn good_type(kind: u32) -> bool
     ensures { λ b. ⌜ b ≡ goodType kind ⌝ }
 {
     kind <= 1
 }
 
 // Whether 5.2.5.9 lists a disconnect's reason.
-pub fn listed_reason(reason: u32) -> bool
+pub(crate) fn listed_reason(reason: u32) -> bool
     ensures { λ b. ⌜ b ≡ listedReason reason ⌝ }
 {
     if reason <= 0x07 {

@@ -7,7 +7,7 @@ ghost use lib.ListN.{length};
 ghost use Rattle.telegram.specs.Levels.{wordLength};
 ghost use Rattle.telegram.specs.Layout.{layout, fieldBytes};
 ghost use Rattle.telegram.specs.Telegrams.{body, sealed, versionAndBus, authenticationNumber};
-ghost use Rattle.telegram.specs.Writers.{answerOf, leftBy, refusal, connectAllowed, disconnectAllowed, dataAllowed};
+ghost use Rattle.telegram.specs.Writers.{answerOf, leftBy, unless, refusal, connectAllowed, disconnectAllowed, dataAllowed};
 ghost use Rattle.telegram.specs.Writers.{writesRequest, writesConfirm, writesAuthentication, writesAcknowledgement};
 ghost use Rattle.telegram.specs.Writers.{writesDisconnect, writesIdle, writesData};
 ghost use Rattle.telegram.specs.Writers.Outcome.{wrote};
@@ -84,6 +84,25 @@ fn put_telegram(
     }
 }
 
+// Writes a telegram, or answers the refusal and leaves the buffer as it is.
+fn put_unless(
+    answer: u32,
+    out: &mut [u8],
+    end: End,
+    number: u32,
+    low: u32,
+    fields: &[u8],
+    net: &[u8],
+) -> Written
+    requires { ⌜ (answer ≡ 0 → (244 ≤ length (now out)) × (2 + length (now fields) + length (now net) + wordLength (end .level) ≤ 244) × (low < 64)) ⌝ }
+    ensures { λ r. ⌜ (r ≡ answerOf (unless answer (sealed end number (body (end .level) number low (now (fields .entry)) (now (net .entry)))))) × (now (out .exit) ≡ leftBy (unless answer (sealed end number (body (end .level) number low (now (fields .entry)) (now (net .entry))))) (now (out .entry))) ⌝ }
+{
+    if answer != 0 {
+        return Written { answer, length: 0 };
+    }
+    put_telegram(out, end, number, low, fields, net)
+}
+
 // The fixed fields of a connect request or confirm: random number, idle time, version, dual bus.
 fn connect_fields(random: u32, time: u32) -> [u8; 10]
     ensures { λ r. ⌜ r ≡ fieldBytes (layout Kind.Request) (random ∷ time ∷ versionAndBus) ⌝ }
@@ -154,11 +173,8 @@ pub fn write_request(out: &mut [u8], end: End, random: u32, time: u32, net: &[u8
 {
     let allowed = connect_allowed(time, net.len(), end.level);
     let answer = first_refusal(end, out.len(), allowed);
-    if answer != 0 {
-        return Written { answer, length: 0 };
-    }
     let fields = connect_fields(random, time);
-    put_telegram(out, end, random, REQUEST, &fields, net)
+    put_unless(answer, out, end, random, REQUEST, &fields, net)
 }
 
 // Connect confirm (5.2.2).
@@ -167,11 +183,8 @@ pub fn write_confirm(out: &mut [u8], end: End, random: u32, time: u32, net: &[u8
 {
     let allowed = connect_allowed(time, net.len(), end.level);
     let answer = first_refusal(end, out.len(), allowed);
-    if answer != 0 {
-        return Written { answer, length: 0 };
-    }
     let fields = connect_fields(random, time);
-    put_telegram(out, end, random, CONFIRM, &fields, net)
+    put_unless(answer, out, end, random, CONFIRM, &fields, net)
 }
 
 // Authentication (5.2.3), from the random number RECEIVED at set-up.
@@ -179,11 +192,8 @@ pub fn write_authentication(out: &mut [u8], end: End, number: u32, received: u32
     ensures { λ r. ⌜ (r ≡ answerOf (writesAuthentication end number received (now (out .entry)))) × (now (out .exit) ≡ leftBy (writesAuthentication end number received (now (out .entry))) (now (out .entry))) ⌝ }
 {
     let answer = first_refusal(end, out.len(), true);
-    if answer != 0 {
-        return Written { answer, length: 0 };
-    }
     let fields = authentication_fields(end.level, received);
-    put_telegram(out, end, number, AUTHENTICATION, &fields, b"")
+    put_unless(answer, out, end, number, AUTHENTICATION, &fields, b"")
 }
 
 // Authentication acknowledgement (5.2.4), from the random number RECEIVED at set-up.
@@ -191,11 +201,8 @@ pub fn write_acknowledgement(out: &mut [u8], end: End, number: u32, received: u3
     ensures { λ r. ⌜ (r ≡ answerOf (writesAcknowledgement end number received (now (out .entry)))) × (now (out .exit) ≡ leftBy (writesAcknowledgement end number received (now (out .entry))) (now (out .entry))) ⌝ }
 {
     let answer = first_refusal(end, out.len(), true);
-    if answer != 0 {
-        return Written { answer, length: 0 };
-    }
     let fields = authentication_fields(end.level, received);
-    put_telegram(out, end, number, ACKNOWLEDGEMENT, &fields, b"")
+    put_unless(answer, out, end, number, ACKNOWLEDGEMENT, &fields, b"")
 }
 
 // Disconnect (5.2.5). A new set-up is desired, 1, or the disconnection is final, 0.
@@ -211,11 +218,8 @@ pub fn write_disconnect(
 {
     let allowed = disconnect_allowed(new_setup, reason, text.len(), end.level);
     let answer = first_refusal(end, out.len(), allowed);
-    if answer != 0 {
-        return Written { answer, length: 0 };
-    }
     let fields = [(new_setup % 256) as u8, (reason % 256) as u8];
-    put_telegram(out, end, number, DISCONNECT, &fields, text)
+    put_unless(answer, out, end, number, DISCONNECT, &fields, text)
 }
 
 // Idle (5.2.6).
@@ -223,10 +227,7 @@ pub fn write_idle(out: &mut [u8], end: End, number: u32) -> Written
     ensures { λ r. ⌜ (r ≡ answerOf (writesIdle end number (now (out .entry)))) × (now (out .exit) ≡ leftBy (writesIdle end number (now (out .entry))) (now (out .entry))) ⌝ }
 {
     let answer = first_refusal(end, out.len(), true);
-    if answer != 0 {
-        return Written { answer, length: 0 };
-    }
-    put_telegram(out, end, number, IDLE, b"", b"")
+    put_unless(answer, out, end, number, IDLE, b"", b"")
 }
 
 // Data (5.2.7), with the command's low six bits.
@@ -235,8 +236,5 @@ pub fn write_data(out: &mut [u8], end: End, number: u32, low: u32, net: &[u8]) -
 {
     let allowed = data_allowed(low, net.len(), end.level);
     let answer = first_refusal(end, out.len(), allowed);
-    if answer != 0 {
-        return Written { answer, length: 0 };
-    }
-    put_telegram(out, end, number, low, b"", net)
+    put_unless(answer, out, end, number, low, b"", net)
 }

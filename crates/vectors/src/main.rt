@@ -1,6 +1,9 @@
-// Every check word that SUBSET-057 prints, worked out by the library over implicit bytes and telegram as two runs. The file `stdout` beside src/ holds
-// the words as printed there: a run that writes anything else fails.
+// Every check word that SUBSET-057 prints, worked out by the library over implicit bytes and telegram as two runs, and the telegrams of 5.3.1 as the
+// writers write them and the partner's check takes them. The file `stdout` beside src/ holds the bytes as printed there: a run that writes anything
+// else fails.
 use libc::STDOUT_FILENO;
+use telegram::End;
+use telegram::Written;
 
 fn line48(clause: &[u8], implicit: &[u8], telegram: &[u8]) {
     io::write_all(STDOUT_FILENO, clause);
@@ -83,7 +86,81 @@ fn multicast() {
     );
 }
 
+// The nodes of 5.3.1.6, seen from each side.
+fn node_8(level: u32, sap: u32) -> End {
+    End {
+        own: 8,
+        partner: 1,
+        partner_sap: sap,
+        local_sap: sap,
+        level,
+    }
+}
+
+fn node_1(level: u32, sap: u32) -> End {
+    End {
+        own: 1,
+        partner: 8,
+        partner_sap: sap,
+        local_sap: sap,
+        level,
+    }
+}
+
+fn bytes(run: &[u8]) {
+    let mut i = 0;
+    while i < run.len() {
+        io::print_hex(STDOUT_FILENO, run[i] as u64, 2);
+        i += 1;
+    }
+}
+
+// A written telegram, and what the check of its receiver finds.
+fn telegram_line(clause: &[u8], written: Written, out: &[u8], receiver: End, expected: u32) {
+    let length = written.length as usize;
+    if out.len() < length {
+        return;
+    }
+    let sent = &out[..length];
+    let found = telegram::answer_number(telegram::checked(receiver, expected, sent));
+    io::write_all(STDOUT_FILENO, clause);
+    bytes(sent);
+    io::write_all(STDOUT_FILENO, b" check ");
+    io::print_decimal(STDOUT_FILENO, found as u64);
+    io::write_all(STDOUT_FILENO, b"\n");
+}
+
+// 5.3.1.7 as whole telegrams, both ways; and the idle of 5.3.1.8, which is printed with length 08h, as its writer writes it, with 06h.
+fn telegrams() {
+    let mut out = [0u8; 244];
+    let there = telegram::write_authentication(&mut out, node_8(4, 3), 0x0123_4568, 0x89AB_CDEF);
+    telegram_line(
+        b"5.3.1.7    authentication telegram        ",
+        there,
+        &out,
+        node_1(4, 3),
+        0x0123_4568,
+    );
+    let back = telegram::write_acknowledgement(&mut out, node_1(4, 3), 0x89AB_CDF0, 0x0123_4567);
+    telegram_line(
+        b"5.3.1.7    its acknowledgement            ",
+        back,
+        &out,
+        node_8(4, 3),
+        0x89AB_CDF0,
+    );
+    let idle = telegram::write_idle(&mut out, node_8(2, 9), 0x6034_4931);
+    telegram_line(
+        b"5.3.1.8    idle telegram, length 06h      ",
+        idle,
+        &out,
+        node_1(2, 9),
+        0x6034_4931,
+    );
+}
+
 fn main() {
     connections();
     multicast();
+    telegrams();
 }

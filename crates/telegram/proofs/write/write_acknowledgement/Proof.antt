@@ -1,13 +1,13 @@
--- `telegram::write::write_acknowledgement` meets its contract: refused as it was, or the field that the layout has.
+-- `telegram::write::write_acknowledgement` meets its contract: the refusal and the fields are the definition's.
 -- Assumes nothing.
 use native.Mathlib.Omega.{arith}
 use lib.Dec.{lit<}
 use borrow.Author.Needs.{needs}
 use Rattle.telegram.specs.Choice.{pick}
 use Rattle.telegram.specs.Commands.{kindOf}
-use Rattle.telegram.specs.Telegrams.{acknowledgement}
 use Rattle.telegram.specs.Writers.{writesAcknowledgement}
-use Rattle.telegram.proofs.Refusals.{refusing, writing, clear}
+use Rattle.telegram.specs.Telegrams.{acknowledgement}
+use Rattle.telegram.proofs.Refusals.{as-defined, clear}
 use Rattle.telegram.proofs.Widths.{word-small}
 use Rattle.telegram.proofs.write.write_acknowledgement.Statement.{statement}
 use Rattle.telegram.proofs.write.write_acknowledgement.Tie as tie
@@ -15,38 +15,33 @@ use Rattle.telegram.proofs.write.write_acknowledgement.Tie as tie
 first-refusal-requires : tie.Need-first-refusal-requires
 first-refusal-requires c κs = search needs
 
-returns : tie.Need-returns
-unfolding writesAcknowledgement
-returns c = refusing _ _ _ _ (c .before .first-refusal .ensures) (c .if1 .taken)
-
 authentication-fields-requires : tie.Need-authentication-fields-requires
 authentication-fields-requires c κs = search needs
 
-slice-aggregate-put-telegram : tie.Need-slice-aggregate-put-telegram
-slice-aggregate-put-telegram c = search needs
+slice-aggregate-put-unless : tie.Need-slice-aggregate-put-unless
+slice-aggregate-put-unless c = search needs
 
-slice-aggregate-put-telegram-2 : tie.Need-slice-aggregate-put-telegram-2
-slice-aggregate-put-telegram-2 c = search needs
+slice-aggregate-put-unless-2 : tie.Need-slice-aggregate-put-unless-2
+slice-aggregate-put-unless-2 c = search needs
 
-put-telegram-requires : tie.Need-put-telegram-requires
-put-telegram-requires c κs = let ok = clear _ _ _ _ (c .before .before .before .before .before .first-refusal .ensures) (c .before .before .before .before .if1 .left) in (ok .1, omega (arith, word-small (c .before .before .before .before .before .before .before .args .end .level)), lit< tt)
+put-unless-requires : tie.Need-put-unless-requires
+put-unless-requires c κs = λ z. let ok = clear _ _ _ _ (c .before .before .before .before .first-refusal .ensures) z in (ok .1, omega (arith, word-small (c .before .before .before .before .before .before .args .end .level)), lit< tt)
 
 same-length : tie.Need-same-length
 same-length c = search needs
 
-returns-2 : tie.Need-returns-2
+returns : tie.Need-returns
 unfolding writesAcknowledgement acknowledgement kindOf pick
-returns-2 c = writing _ _ _ _ _ _ _ _ _ _ _ (c .before .before .before .before .before .before .before .before .first-refusal .ensures) (c .before .before .before .before .before .before .before .if1 .left) (c .before .before .before .before .before .before .authentication-fields .ensures) (c .before .before .put-telegram .ensures)
+returns c = as-defined _ _ _ _ _ _ _ _ _ _ _ (c .before .before .before .before .before .before .before .first-refusal .ensures) (c .before .before .before .before .before .before .authentication-fields .ensures) (c .before .before .put-unless .ensures)
 
 pub write-acknowledgement-spec : {M : Type 1} → statement M
 write-acknowledgement-spec =
     tie.close
     (tie.spec
     first-refusal-requires
-    returns
     authentication-fields-requires
-    slice-aggregate-put-telegram
-    slice-aggregate-put-telegram-2
-    put-telegram-requires
+    slice-aggregate-put-unless
+    slice-aggregate-put-unless-2
+    put-unless-requires
     same-length
-    returns-2)
+    returns)
