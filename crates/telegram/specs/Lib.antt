@@ -11,3 +11,4 @@ pub mod Writers
 pub mod Check
 pub mod NetData
 pub mod Facts
+pub mod Fields

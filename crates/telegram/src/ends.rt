@@ -14,7 +14,7 @@ pub(crate) fn is_level(level: u32) -> bool
 }
 
 // Whether addresses, SAPs and level are in range.
-pub(crate) fn in_range(end: End) -> bool
+pub fn in_range(end: End) -> bool
     ensures { λ b. ⌜ b ≡ inRange end ⌝ }
 {
     if 126 < end.own {

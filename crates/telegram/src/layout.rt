@@ -54,7 +54,7 @@ pub(crate) fn length_suits(kind: Kind, level: u32, length: usize) -> bool
 }
 
 // Whether the bus can carry a telegram of this length for us.
-pub(crate) fn on_bus(length: usize) -> bool
+pub fn on_bus(length: usize) -> bool
     ensures { λ b. ⌜ b ≡ onBus length ⌝ }
 {
     if length < 6 {

@@ -3,7 +3,7 @@ ghost use mathlib.Core.Path.{_≡_};
 ghost use Rattle.telegram.specs.Values.{goodIdle, goodType, listedReason, goodDualBus};
 
 // Whether an idle time is 0 or a multiple of 100 in 100..65500.
-pub(crate) fn good_idle(time: u32) -> bool
+pub fn good_idle(time: u32) -> bool
     ensures { λ b. ⌜ b ≡ goodIdle time ⌝ }
 {
     if 65500 < time {

@@ -121,11 +121,18 @@ fn connect_fields(random: u32, time: u32) -> [u8; 10]
     ]
 }
 
-// The fixed field of an authentication or its acknowledgement: the number received, changed as the level asks.
+// The random number received at set-up, changed as the level asks (5.1.4).
+pub fn authentication_of(level: u32, received: u32) -> u32
+    ensures { λ n. ⌜ n ≡ authenticationNumber level received ⌝ }
+{
+    std::num::wrapping_add_u32(received, added_number(level))
+}
+
+// The fixed field of an authentication or its acknowledgement.
 fn authentication_fields(level: u32, received: u32) -> [u8; 4]
     ensures { λ r. ⌜ r ≡ fieldBytes (layout Kind.Authentication) (authenticationNumber level received ∷ []) ⌝ }
 {
-    let number = std::num::wrapping_add_u32(received, added_number(level));
+    let number = authentication_of(level, received);
     [
         (number % 256) as u8,
         (number / 256 % 256) as u8,
@@ -135,7 +142,7 @@ fn authentication_fields(level: u32, received: u32) -> [u8; 4]
 }
 
 // Whether a connect request or confirm may carry these values.
-fn connect_allowed(time: u32, count: usize, level: u32) -> bool
+pub fn connect_allowed(time: u32, count: usize, level: u32) -> bool
     ensures { λ b. ⌜ b ≡ connectAllowed time count level ⌝ }
 {
     if !good_idle(time) {
@@ -145,7 +152,7 @@ fn connect_allowed(time: u32, count: usize, level: u32) -> bool
 }
 
 // Whether a disconnect may carry these values.
-fn disconnect_allowed(new_setup: u32, reason: u32, count: usize, level: u32) -> bool
+pub fn disconnect_allowed(new_setup: u32, reason: u32, count: usize, level: u32) -> bool
     ensures { λ b. ⌜ b ≡ disconnectAllowed «new_setup» reason count level ⌝ }
 {
     if !good_type(new_setup) {
@@ -158,7 +165,7 @@ fn disconnect_allowed(new_setup: u32, reason: u32, count: usize, level: u32) -> 
 }
 
 // Whether a data telegram may carry these values.
-fn data_allowed(low: u32, count: usize, level: u32) -> bool
+pub fn data_allowed(low: u32, count: usize, level: u32) -> bool
     ensures { λ b. ⌜ b ≡ dataAllowed low count level ⌝ }
 {
     if !is_data(low) {

@@ -1,0 +1,66 @@
+-- `link::steps::tick` meets its contract: refused as it was, or what the verdict does.
+-- Assumes nothing.
+use mathlib.Core.Bool.{true}
+use mathlib.Core.Path.{refl}
+use borrow.Author.Tests.{eq-eqb, ne-eqb}
+use borrow.Author.Needs.{needs}
+use Rattle.telegram.specs.Choice.{yes, no}
+use Rattle.link.specs.Steps.{tickOf, tickOut, tickRefusal}
+use Rattle.link.proofs.Cases.{live-phase}
+use Rattle.link.proofs.steps.tick.Statement.{statement}
+use Rattle.link.proofs.steps.tick.Tie as tie
+
+is-not-requires : tie.Need-is-not-requires
+is-not-requires c κs = search needs
+
+record-in-range-requires : tie.Need-record-in-range-requires
+record-in-range-requires c κs = search needs
+
+has-room-requires : tie.Need-has-room-requires
+has-room-requires c κs = search needs
+
+first-refusal-requires : tie.Need-first-refusal-requires
+first-refusal-requires c κs = search needs
+
+refused-step-requires : tie.Need-refused-step-requires
+refused-step-requires c κs = search needs
+
+returns : tie.Need-returns
+unfolding tickOf tickOut tickRefusal
+returns c = rw (← c .before .before .before .before .before .is-not .ensures, ← c .before .before .before .before .record-in-range .ensures, ← c .before .before .before .has-room .ensures, ← c .before .before .first-refusal .ensures, c .refused-step .ensures) (no _ _ _ _ (ne-eqb _ _ (c .before .if1 .taken)) refl, no _ _ _ _ (ne-eqb _ _ (c .before .if1 .taken)) refl)
+
+judge-tick-requires : tie.Need-judge-tick-requires
+judge-tick-requires c κs = live-phase (c .before .before .before .before .before .before .args .«record») (c .before .before .before .before .before .before .args .own) (c .before .first-refusal .result) (c .before .before .has-room .result) true true true (rw (← c .before .before .before .before .is-not .ensures, ← c .before .before .before .record-in-range .ensures) (c .before .first-refusal .ensures)) (c .if1 .left)
+
+slice-aggregate-act : tie.Need-slice-aggregate-act
+slice-aggregate-act c = search needs
+
+slice-aggregate-act-2 : tie.Need-slice-aggregate-act-2
+slice-aggregate-act-2 c = search needs
+
+act-requires : tie.Need-act-requires
+act-requires c κs = search needs
+
+same-length : tie.Need-same-length
+same-length c = search needs
+
+returns-2 : tie.Need-returns-2
+unfolding tickOf tickOut tickRefusal
+returns-2 c = rw (← c .before .before .before .before .before .before .before .before .before .before .before .is-not .ensures, ← c .before .before .before .before .before .before .before .before .before .before .record-in-range .ensures, ← c .before .before .before .before .before .before .before .before .before .has-room .ensures, ← c .before .before .before .before .before .before .before .before .first-refusal .ensures, ← c .before .before .before .before .before .before .judge-tick .ensures) (yes _ _ _ _ (eq-eqb _ _ (c .before .before .before .before .before .before .before .if1 .left)) (c .before .before .act .ensures .0), yes _ _ _ _ (eq-eqb _ _ (c .before .before .before .before .before .before .before .if1 .left)) (c .before .before .act .ensures .1))
+
+pub tick-spec : {M : Type 1} → statement M
+tick-spec =
+    tie.close
+    (tie.spec
+    is-not-requires
+    record-in-range-requires
+    has-room-requires
+    first-refusal-requires
+    refused-step-requires
+    returns
+    judge-tick-requires
+    slice-aggregate-act
+    slice-aggregate-act-2
+    act-requires
+    same-length
+    returns-2)

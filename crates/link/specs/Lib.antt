@@ -1,0 +1,6 @@
+pub mod Records
+pub mod Times
+pub mod Table
+pub mod Judged
+pub mod Steps
+pub mod Plain
