@@ -84,6 +84,7 @@ unfolding pick
 no-by b c x y z p t e = rw (← p, t) e
 
 pub idle-ruled : (p : ℕ) → p ≡ 5 → SendIdle ≡ ruled Timeout-snd p
+unfolding pick
 idle-ruled p e = rw e
 
 pub quiet-is : (q p : Record) (e f : Event) (s : Step) → q ≡ p → e ≡ f → s ≡ quietly q e → s ≡ quietly p f

@@ -16,7 +16,7 @@ use Rattle.telegram.specs.declared.Check.{Check}
 use Rattle.telegram.specs.declared.Check.the-variants.{Passes, Failed, Refused}
 use Rattle.link.specs.Records.{endOf}
 use Rattle.link.specs.Times.{waitOver, watchOver, idleDue}
-use Rattle.link.specs.Table.{Action, Next, Row, cell, f00, f01, f02, f03, f04, f05, f06, f07, f08, f09, f10, f11, f12, f13, stays, idle, wConAck, wAuthReq, wAuthAck, opens, defect, Connect-snd, Data-snd, Timeout-snd, Timeout-rcv, Timeout-brk, Data-rcv, Idle-rcv, Incorrect-rcv-1st, Incorrect-rcv-2nd, ConReq-rcv, ConAck-rcv, AuthReq-rcv, AuthAck-rcv, Discon-snd, FDiscon-snd, Discon-rcv}
+use Rattle.link.specs.Table.{Action, Next, Row, reading, f00, f01, f02, f03, f04, f05, f06, f07, f08, f09, f10, f11, f12, f13, stays, idle, wConAck, wAuthReq, wAuthAck, opens, defect, Connect-snd, Data-snd, Timeout-snd, Timeout-rcv, Timeout-brk, Data-rcv, Idle-rcv, Incorrect-rcv-1st, Incorrect-rcv-2nd, ConReq-rcv, ConAck-rcv, AuthReq-rcv, AuthAck-rcv, Discon-snd, FDiscon-snd, Discon-rcv}
 use Rattle.link.specs.declared.Record.{Record}
 use Rattle.link.specs.declared.Verdict.{Verdict}
 use Rattle.link.specs.declared.Verdict.the-variants.{Nothing, Confirm, Authenticate, Acknowledge, Open, Data, Idle, SendIdle, Disconnected, Close}
@@ -80,7 +80,7 @@ verdictOf f12 n reason = Open
 verdictOf f13 n reason = Nothing
 
 abbrev pub ruled : Row → ℕ → Verdict
-ruled row p = verdictOf (cell row p .action) (cell row p .next) (reasonFor row p)
+ruled row p = verdictOf (reading row p .action) (reading row p .next) (reasonFor row p)
 
 -- Versions of a request or confirm (8): X = 3 and Y = 0; Z is free.
 unfoldable pub goodVersion : List ℕ → Bool

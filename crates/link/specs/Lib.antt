@@ -4,3 +4,4 @@ pub mod Table
 pub mod Judged
 pub mod Steps
 pub mod Plain
+pub mod Facts

@@ -1,8 +1,10 @@
--- The transition table of 5.5.1.5 as printed, and beside it the cells that document 01 narrows or that need more than the table knows.
+-- The transition table of 5.5.1.5 as printed, row by row, and beside it the cells that document 01 reads otherwise.
 -- Assumes nothing.
 use mathlib.Core.List.{List, [], _∷_}
 use Prim.Native.Nat.{ℕ, _-_}
 use lib.ListN.{getD}
+use lib.Dec.{eqb}
+use Rattle.telegram.specs.Choice.{pick}
 
 -- The actions of 5.5.1.4.
 pub data Action : Type 0 where
@@ -48,3 +50,30 @@ cells Discon-rcv = f00 ⇒ stays ∷ f00 ⇒ idle ∷ f00 ⇒ idle ∷ f00 ⇒ i
 -- The cell of a row in a phase; phases are numbered in the columns' order from 1.
 abbrev pub cell : Row → ℕ → Cell
 cell row phase = getD (cells row) (phase - 1) (f00 ⇒ stays)
+
+-- The second list: the cells that are read otherwise than printed, each with its reason. Two more kinds of cells need what the table does not know, and are
+-- narrowed where that is known (`narrowed` in Judged, `Disconnected` in Steps): version and authentication number (8.1.2, 5.1.4), and the type of a received
+-- disconnect (5.2.5.3).
+abbrev pub reading : Row → ℕ → Cell
+-- F_06 in wAuthAck: no idle telegram while the acknowledgement is awaited. Document 01 has idle due on an open connection only, against f_03 and 5.2.6.2.2: the
+-- record keeps our random number as the number two before the next one sent.
+reading Timeout-snd p = pick (eqb p 4) (f00 ⇒ stays) (cell Timeout-snd p)
+-- f_07 in wConAck, wAuthReq, wAuthAck: the watch runs on an open connection only (5.2.6.2.1).
+reading Timeout-rcv p = pick (eqb p 5) (cell Timeout-rcv p) (f00 ⇒ stays)
+-- f_07 in Data: the acknowledgement timeout is stopped by then (f_04, f_12).
+reading Timeout-brk p = pick (eqb p 5) (f00 ⇒ stays) (cell Timeout-brk p)
+-- the whole row: a second incorrect telegram needs a saved time (f_11, f_13), which the record of document 01 does not have; it is taken as a first one.
+reading Incorrect-rcv-2nd p = cell Incorrect-rcv-1st p
+-- every other row as printed
+reading Connect-snd p = cell Connect-snd p
+reading Data-snd p = cell Data-snd p
+reading Data-rcv p = cell Data-rcv p
+reading Idle-rcv p = cell Idle-rcv p
+reading Incorrect-rcv-1st p = cell Incorrect-rcv-1st p
+reading ConReq-rcv p = cell ConReq-rcv p
+reading ConAck-rcv p = cell ConAck-rcv p
+reading AuthReq-rcv p = cell AuthReq-rcv p
+reading AuthAck-rcv p = cell AuthAck-rcv p
+reading Discon-snd p = cell Discon-snd p
+reading FDiscon-snd p = cell FDiscon-snd p
+reading Discon-rcv p = cell Discon-rcv p

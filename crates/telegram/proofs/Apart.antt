@@ -18,6 +18,7 @@ use Rattle.telegram.specs.Commands.{kindOfCommand}
 use Rattle.telegram.specs.Layout.{values}
 use Rattle.telegram.specs.Numbers.{lowestFirst}
 use Rattle.telegram.specs.Ends.{inRange, implicit, receiving}
+use Rattle.telegram.specs.Values.{goodFields}
 use Rattle.telegram.specs.Telegrams.{checkWord}
 use Rattle.telegram.specs.Check.{commandOf, sameLevel, numberUsed, usedFor, covered, wordAgrees, clauses, firstFailing, checkOf}
 use Rattle.telegram.specs.Facts.{Other-partner, Apart-at-4, Apart-at-2, Connect-apart, Level-apart}
@@ -56,19 +57,20 @@ hold (c ∷ cs) p =
     let both = chosen (c .0) (firstFailing cs) (Failed (c .1)) (not-failed (c .1)) p in
     (both .0, hold cs (both .1))
 
--- What is used here of a check that passes.
-record Passed (e : End) (m : ℕ) (t : List ℕ) : Type 0 where
-  in-range : inRange e ≡ true
-  of-level : sameLevel (levelOf (commandOf t)) (e .level) ≡ true
-  agrees : wordAgrees e (usedFor m t) t ≡ true
+-- What a check that passes says.
+pub record Passed (e : End) (m : ℕ) (t : List ℕ) : Type 0 where
+  pub in-range : inRange e ≡ true
+  pub of-level : sameLevel (levelOf (commandOf t)) (e .level) ≡ true
+  pub good-fields : goodFields (kindOfCommand (commandOf t)) (values (kindOfCommand (commandOf t)) t) ≡ true
+  pub agrees : wordAgrees e (usedFor m t) t ≡ true
 
-passed : (e : End) (m : ℕ) (t : List ℕ) → checkOf e m t ≡ Passes → Passed e m t
+pub passed : (e : End) (m : ℕ) (t : List ℕ) → checkOf e m t ≡ Passes → Passed e m t
 unfolding checkOf
 passed e m t p =
     let ranged = chosen _ _ _ (not-refused 1) p in
     let sized = chosen _ _ _ (not-refused 6) (ranged .1) in
     let all = hold (clauses e m t) (sized .1) in
-    record { in-range = ranged .0; of-level = all .0; agrees = all .1 .1 .1 .1 .1 .0 }
+    record { in-range = ranged .0; of-level = all .0; good-fields = all .1 .1 .1 .1 .0; agrees = all .1 .1 .1 .1 .1 .0 }
 
 -- One command says one level.
 one-level : (x : Level) (l m : ℕ) → sameLevel x l ≡ true → sameLevel x m ≡ true → l ≡ m

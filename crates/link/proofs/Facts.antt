@@ -1,0 +1,155 @@
+-- The facts of the steps, as specs/Facts.antt states them: by the cases that a step can take.
+-- Assumes nothing.
+use mathlib.Core.Path.{_≡_, refl, ap}
+use mathlib.Core.Bool.{Bool, true, false}
+use mathlib.Core.List.{List, []}
+use Prim.Native.Nat.{ℕ, _+_, _-_}
+use native.Mathlib.Omega.{arith}
+use lib.Dec.{ltb, eqb}
+use borrow.Author.Tests.{le-ltb, lt-ltb, ne-eqb}
+use Rattle.telegram.specs.Choice.{pick}
+use Rattle.telegram.specs.Writers.{Outcome, leftBy}
+use Rattle.telegram.proofs.Taken.{disconnect-taken}
+use Rattle.telegram.specs.declared.Written.{Written}
+use Rattle.link.specs.Records.{endOf, atRest, become, closedBy}
+use Rattle.link.specs.Times.{gap, waitOver, watchOver}
+use Rattle.link.specs.Judged.{judged, passed, ticked}
+use Rattle.link.specs.Steps.{neb, firstRefusal, taken, sent, quietly, refusedStep, writingStep, actOf, unlessStep, openRefusal, openOf, closeRefusal, closeOf, sendRefusal, sendOf, receivedRefusal, receivedOf, tickRefusal, tickOf}
+use Rattle.link.specs.Facts.{Same, Same-connection, Final-stays, Disconnect-before-closing, Closed-at-rest, Waits, Watch, By-the-table}
+use Rattle.link.specs.declared.Record.{Record}
+use Rattle.link.specs.declared.Step.{Step}
+use Rattle.link.specs.declared.Event.{Event}
+use Rattle.link.specs.declared.Verdict.{Verdict}
+use Rattle.link.specs.declared.Verdict.the-variants.{Nothing, Confirm, Authenticate, Acknowledge, Open, Data, Idle, SendIdle, Disconnected, Close}
+
+-- The same connection
+
+same-refl : (r : Record) → Same r r
+same-refl r = record { partner = refl; partner-sap = refl; local-sap = refl; level = refl }
+
+become-same : (r : Record) (phase sending expected declared watched sentAt takenAt : ℕ) → Same r (become r phase sending expected declared watched sentAt takenAt)
+unfolding become
+become-same r phase sending expected declared watched sentAt takenAt = record { partner = refl; partner-sap = refl; local-sap = refl; level = refl }
+
+closed-same : (last : Bool) (r : Record) → Same r (closedBy last r)
+unfolding closedBy
+closed-same last r = become-same r (pick last 6 1) 0 0 0 0 0 0
+
+taken-same : (r : Record) (time : ℕ) → Same r (taken r time)
+unfolding taken
+taken-same r time = become-same r 5 (r .sending) _ (r .declared) (r .watched) (r .«sent_at») time
+
+sent-same : (r : Record) (time : ℕ) → Same r (sent r time)
+unfolding sent
+sent-same r time = become-same r 5 _ (r .expected) (r .declared) (r .watched) time (r .«taken_at»)
+
+picked-same : (b : Bool) (r : Record) (s u : Step) → Same r (s .«record») → Same r (u .«record») → Same r (pick b s u .«record»)
+unfolding pick
+picked-same true r s u p q = p
+picked-same false r s u p q = q
+
+quiet-same : (r q : Record) (e : Event) → Same r q → Same r (quietly q e .«record»)
+unfolding quietly
+quiet-same r q e p = p
+
+refused-same : (n : ℕ) (r : Record) → Same r (refusedStep n r .«record»)
+unfolding refusedStep
+refused-same n r = same-refl r
+
+writing-same : (w : Written) (r q : Record) (kind : ℕ) (e : Event) → Same r q → Same r (writingStep w r q kind e .«record»)
+unfolding writingStep
+writing-same w r q kind e p = picked-same (eqb (w .answer) 0) r _ _ p (refused-same (w .answer) r)
+
+act-same : (v : Verdict) (r : Record) (own time random declared : ℕ) (t net d : List ℕ) → Same r (actOf v r own time random declared t net d .«record»)
+act-same Nothing r own time random declared t net d = quiet-same r r _ (same-refl r)
+act-same Confirm r own time random declared t net d = writing-same _ r _ 2 _ (become-same r 3 _ _ _ _ _ _)
+act-same Authenticate r own time random declared t net d = writing-same _ r _ 3 _ (become-same r 4 _ _ _ _ _ _)
+act-same Acknowledge r own time random declared t net d = writing-same _ r _ 4 _ (become-same r 5 _ _ _ _ _ _)
+act-same Open r own time random declared t net d = quiet-same r _ _ (taken-same r time)
+act-same Data r own time random declared t net d = quiet-same r _ _ (taken-same r time)
+act-same Idle r own time random declared t net d = quiet-same r _ _ (taken-same r time)
+act-same SendIdle r own time random declared t net d = writing-same _ r _ 6 _ (sent-same r time)
+act-same Disconnected r own time random declared t net d = quiet-same r _ _ (closed-same _ r)
+act-same (Close reason last) r own time random declared t net d = writing-same _ r _ 5 _ (closed-same last r)
+
+unless-same : (n : ℕ) (r : Record) (s : Step) → Same r (s .«record») → Same r (unlessStep n r s .«record»)
+unless-same n r s p = picked-same (eqb n 0) r s (refusedStep n r) p (refused-same n r)
+
+pub same-connection : Same-connection
+unfolding openOf closeOf sendOf receivedOf tickOf
+same-connection =
+    record {
+      by-open = λ r own time random i net d. unless-same (openRefusal r own i net d) r _ (writing-same _ r _ 1 _ (become-same r 2 _ _ _ _ _ _));
+      by-close = λ r own type reason text d. unless-same (closeRefusal r own type reason text d) r _ (writing-same _ r _ 5 _ (closed-same _ r));
+      by-send = λ r own time low net d. unless-same (sendRefusal r own low net d) r _ (writing-same _ r _ 7 _ (sent-same r time));
+      by-received = λ r own time random i t net d. unless-same (receivedRefusal r own i t net d) r _ (act-same (judged r own time t) r own time random _ t net d);
+      by-tick = λ r own time d. unless-same (tickRefusal r own d) r _ (act-same (ticked r time) r own time 0 0 _ _ d);
+    }
+
+-- A finally closed record
+
+-- with the fourth test failed there is a refusal
+stopped : (a b c e f : Bool) → firstRefusal a b c false e f ≡ 0 → ⊥
+unfolding firstRefusal pick
+stopped true true true e f p = omega arith
+stopped true true false e f p = omega arith
+stopped true false c e f p = omega arith
+stopped false b c e f p = omega arith
+
+finally : (r : Record) → r .phase ≡ 6 → neb (r .phase) 6 ≡ false
+unfolding pick
+finally r p = rw p
+
+unless-stays : (a b c d e f : Bool) (r : Record) (s : Step) → d ≡ false → unlessStep (firstRefusal a b c d e f) r s .«record» ≡ r
+unfolding pick refusedStep
+unless-stays a b c d e f r s p = rw (p, ne-eqb (firstRefusal a b c false e f) 0 (stopped a b c e f))
+
+pub final-stays : Final-stays
+unfolding openOf openRefusal closeOf closeRefusal sendOf sendRefusal receivedOf receivedRefusal tickOf tickRefusal
+final-stays =
+    record {
+      by-open = λ r own time random i net d p. unless-stays _ _ _ _ _ _ r _ (finally r p);
+      by-close = λ r own type reason text d p. unless-stays _ _ _ _ _ _ r _ (finally r p);
+      by-send = λ r own time low net d p. unless-stays _ _ _ _ _ _ r _ (finally r p);
+      by-received = λ r own time random i t net d p. unless-stays _ _ _ _ _ _ r _ (finally r p);
+      by-tick = λ r own time d p. unless-stays _ _ _ _ _ _ r _ (finally r p);
+    }
+
+pub closed-at-rest : Closed-at-rest
+unfolding atRest closedBy become pick
+closed-at-rest r last = refl
+
+-- Times
+
+pub waits : Waits
+unfolding waitOver
+waits =
+    record {
+      in-time = λ r. le-ltb 5000 (gap (r .«sent_at») (r .«sent_at» + 5000)) (omega arith);
+      too-late = λ r. lt-ltb 5000 (gap (r .«sent_at») (r .«sent_at» + 5001)) (omega arith);
+    }
+
+watch-picked : (w g : ℕ) → ltb w g ≡ false → pick (eqb w 0) false (ltb w g) ≡ false
+unfolding pick
+watch-picked w g p = split (eqb w 0)
+  where
+    split : (b : Bool) → pick b false (ltb w g) ≡ false
+    split true = refl
+    split false = p
+
+pub watch : Watch
+unfolding watchOver pick
+watch =
+    record {
+      in-time = λ r. watch-picked (r .watched) _ (le-ltb (r .watched) (gap (r .«taken_at») (r .«taken_at» + r .watched)) (omega arith));
+      too-late = λ r some. rw (ne-eqb (r .watched) 0 some) (lt-ltb (r .watched) (gap (r .«taken_at») (r .«taken_at» + (r .watched + 1))) (omega arith));
+      none = λ r time p. rw p;
+    }
+
+pub by-the-table : By-the-table
+unfolding judged passed pick
+by-the-table r own time t in-time p = rw (in-time, p)
+
+pub disconnect-before-closing : Disconnect-before-closing
+disconnect-before-closing r own random declared reason last t net d u p =
+    (ap (λ (o : Outcome). leftBy o d) p, disconnect-taken (endOf r own) (r .sending) (pick last 0 1) reason [] d u tt p)

@@ -1,0 +1,85 @@
+-- What is shown of the steps. proofs/Facts.antt proves each statement under the same name in small letters.
+-- Assumes nothing.
+use mathlib.Core.Path.{_≡_}
+use mathlib.Core.Bool.{Bool, true, false}
+use mathlib.Core.List.{List, [], _∷_}
+use Prim.Native.Nat.{ℕ, _+_}
+use Rattle.telegram.specs.Choice.{pick}
+use Rattle.telegram.specs.Commands.{kindOfCommand}
+use Rattle.telegram.specs.Writers.{leftBy, writesDisconnect}
+use Rattle.telegram.specs.Writers.Outcome.{wrote}
+use Rattle.telegram.specs.Facts.{Taken}
+use Rattle.telegram.specs.declared.Kind.the-variants.{Disconnect}
+use Rattle.telegram.specs.Check.{commandOf, checkOf}
+use Rattle.telegram.specs.declared.Check.the-variants.{Passes}
+use Rattle.link.specs.Records.{endOf, atRest, recordInRange, closedBy}
+use Rattle.link.specs.Times.{waitOver, watchOver}
+use Rattle.link.specs.Judged.{rowOf, ruled, narrowed, expectedNow, runOut, judged}
+use Rattle.link.specs.declared.Verdict.the-variants.{Close}
+use Rattle.link.specs.Steps.{actOut, openOf, closeOf, sendOf, receivedOf, tickOf}
+use Rattle.link.specs.declared.Record.{Record}
+use Rattle.link.specs.declared.IdleTime.{IdleTime}
+
+-- The same connection: partner address, SAPs and level.
+pub record Same (r q : Record) : Type 0 where
+  pub partner : q .partner ≡ r .partner
+  pub partner-sap : q .«partner_sap» ≡ r .«partner_sap»
+  pub local-sap : q .«local_sap» ≡ r .«local_sap»
+  pub level : q .level ≡ r .level
+
+-- No step changes partner address, SAPs or level.
+pub record Same-connection : Type 0 where
+  pub by-open : (r : Record) (own time random : ℕ) (i : IdleTime) (net d : List ℕ) → Same r (openOf r own time random i net d .«record»)
+  pub by-close : (r : Record) (own type reason : ℕ) (text d : List ℕ) → Same r (closeOf r own type reason text d .«record»)
+  pub by-send : (r : Record) (own time low : ℕ) (net d : List ℕ) → Same r (sendOf r own time low net d .«record»)
+  pub by-received : (r : Record) (own time random : ℕ) (i : IdleTime) (t net d : List ℕ) → Same r (receivedOf r own time random i t net d .«record»)
+  pub by-tick : (r : Record) (own time : ℕ) (d : List ℕ) → Same r (tickOf r own time d .«record»)
+
+-- A finally closed record changes in no step.
+pub record Final-stays : Type 0 where
+  pub by-open : (r : Record) (own time random : ℕ) (i : IdleTime) (net d : List ℕ) → r .phase ≡ 6 → openOf r own time random i net d .«record» ≡ r
+  pub by-close : (r : Record) (own type reason : ℕ) (text d : List ℕ) → r .phase ≡ 6 → closeOf r own type reason text d .«record» ≡ r
+  pub by-send : (r : Record) (own time low : ℕ) (net d : List ℕ) → r .phase ≡ 6 → sendOf r own time low net d .«record» ≡ r
+  pub by-received : (r : Record) (own time random : ℕ) (i : IdleTime) (t net d : List ℕ) → r .phase ≡ 6 → receivedOf r own time random i t net d .«record» ≡ r
+  pub by-tick : (r : Record) (own time : ℕ) (d : List ℕ) → r .phase ≡ 6 → tickOf r own time d .«record» ≡ r
+
+-- A record that the rules accept stays one that the rules accept.
+pub record Stays-accepted : Type 0 where
+  pub by-open : (r : Record) (own time random : ℕ) (i : IdleTime) (net d : List ℕ) → recordInRange r own ≡ true
+      → recordInRange (openOf r own time random i net d .«record») own ≡ true
+  pub by-close : (r : Record) (own type reason : ℕ) (text d : List ℕ) → recordInRange r own ≡ true
+      → recordInRange (closeOf r own type reason text d .«record») own ≡ true
+  pub by-send : (r : Record) (own time low : ℕ) (net d : List ℕ) → recordInRange r own ≡ true → recordInRange (sendOf r own time low net d .«record») own ≡ true
+  pub by-received : (r : Record) (own time random : ℕ) (i : IdleTime) (t net d : List ℕ) → recordInRange r own ≡ true
+      → recordInRange (receivedOf r own time random i t net d .«record») own ≡ true
+  pub by-tick : (r : Record) (own time : ℕ) (d : List ℕ) → recordInRange r own ≡ true → recordInRange (tickOf r own time d .«record») own ≡ true
+
+-- A disconnect that a closing writes carries the number from before it: the mirrored end that expects that number takes it, with its type and reason.
+abbrev pub Disconnect-before-closing : Type 0
+Disconnect-before-closing =
+    (r : Record) (own random declared reason : ℕ) (last : Bool) (t net d u : List ℕ)
+    → writesDisconnect (endOf r own) (r .sending) (pick last 0 1) reason [] d ≡ wrote u
+    → (actOut (Close reason last) r own random declared t net d ≡ leftBy (wrote u) d)
+    × Taken (endOf r own) (r .sending) u Disconnect (pick last 0 1 ∷ reason ∷ []) []
+
+-- A closed record, finally or not, has its numbers, idle times and timers at 0.
+abbrev pub Closed-at-rest : Type 0
+Closed-at-rest = (r : Record) (last : Bool) → atRest (closedBy last r) ≡ true
+
+-- Waits: 5,000 ms after our last sending is in time, 5,001 is not.
+pub record Waits : Type 0 where
+  pub in-time : (r : Record) → waitOver r (r .«sent_at» + 5000) ≡ false
+  pub too-late : (r : Record) → waitOver r (r .«sent_at» + 5001) ≡ true
+
+-- The watch uses the partner's idle time: a gap equal to it is allowed, one more is not, and 0 means no watch.
+pub record Watch : Type 0 where
+  pub in-time : (r : Record) → watchOver r (r .«taken_at» + r .watched) ≡ false
+  pub too-late : (r : Record) → (r .watched ≡ 0 → ⊥) → watchOver r (r .«taken_at» + (r .watched + 1)) ≡ true
+  pub none : (r : Record) (time : ℕ) → r .watched ≡ 0 → watchOver r time ≡ false
+
+-- A telegram that comes in time and passes the check does what the cell of its row and phase says, narrowed where the table leaves version or authentication
+-- number open (`narrowed` in Judged, the cells ConReq_rcv/Idle, ConAck_rcv/wConAck, AuthReq_rcv/wAuthReq, AuthAck_rcv/wAuthAck, and no other).
+abbrev pub By-the-table : Type 0
+By-the-table =
+    (r : Record) (own time : ℕ) (t : List ℕ) → runOut r time ≡ false → checkOf (endOf r own) (expectedNow r) t ≡ Passes
+    → judged r own time t ≡ narrowed (ruled (rowOf (kindOfCommand (commandOf t))) (r .phase)) r t
