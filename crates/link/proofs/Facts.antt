@@ -3,19 +3,20 @@
 use mathlib.Core.Path.{_≡_, refl, ap}
 use mathlib.Core.Bool.{Bool, true, false}
 use mathlib.Core.List.{List, []}
-use Prim.Native.Nat.{ℕ, _+_, _-_}
+use Prim.Native.Nat.{ℕ, zero, suc, _+_, _≤_}
 use native.Mathlib.Omega.{arith}
 use lib.Dec.{ltb, eqb}
-use borrow.Author.Tests.{le-ltb, lt-ltb, ne-eqb}
+use borrow.Author.Tests.{le-ltb, lt-ltb, eq-eqb, ne-eqb}
 use Rattle.telegram.specs.Choice.{pick}
 use Rattle.telegram.specs.Writers.{Outcome, leftBy}
 use Rattle.telegram.proofs.Taken.{disconnect-taken}
 use Rattle.telegram.specs.declared.Written.{Written}
 use Rattle.link.specs.Records.{endOf, atRest, become, closedBy}
 use Rattle.link.specs.Times.{gap, waitOver, watchOver}
-use Rattle.link.specs.Judged.{judged, passed, ticked}
+use Rattle.link.specs.Table.{cell, reading, otherwise, Connect-snd, Data-snd, Timeout-snd, Timeout-rcv, Timeout-brk, Data-rcv, Idle-rcv, Incorrect-rcv-1st, Incorrect-rcv-2nd, ConReq-rcv, ConAck-rcv, AuthReq-rcv, AuthAck-rcv, Discon-snd, FDiscon-snd, Discon-rcv}
+use Rattle.link.specs.Judged.{ruled, judged, passed, ticked, runOutVerdict}
 use Rattle.link.specs.Steps.{neb, firstRefusal, taken, sent, quietly, refusedStep, writingStep, actOf, unlessStep, openRefusal, openOf, closeRefusal, closeOf, sendRefusal, sendOf, receivedRefusal, receivedOf, tickRefusal, tickOf}
-use Rattle.link.specs.Facts.{Same, Same-connection, Final-stays, Disconnect-before-closing, Closed-at-rest, Waits, Watch, By-the-table}
+use Rattle.link.specs.Facts.{Same, Same-connection, Final-stays, Disconnect-before-closing, Closed-at-rest, Waits, Watch, As-printed, By-the-table}
 use Rattle.link.specs.declared.Record.{Record}
 use Rattle.link.specs.declared.Step.{Step}
 use Rattle.link.specs.declared.Event.{Event}
@@ -146,9 +147,60 @@ watch =
       none = λ r time p. rw p;
     }
 
+-- The table
+
+-- what holds in each of the six phases holds in any of them
+columns : (P : ℕ → Type 0) (p : ℕ) → 1 ≤ p → p ≤ 6 → P 1 → P 2 → P 3 → P 4 → P 5 → P 6 → P p
+columns P zero l h a b c d e f = absurd (omega arith)
+columns P (suc zero) l h a b c d e f = a
+columns P (suc (suc zero)) l h a b c d e f = b
+columns P (suc (suc (suc zero))) l h a b c d e f = c
+columns P (suc (suc (suc (suc zero)))) l h a b c d e f = d
+columns P (suc (suc (suc (suc (suc zero))))) l h a b c d e f = e
+columns P (suc (suc (suc (suc (suc (suc zero)))))) l h a b c d e f = f
+columns P (suc (suc (suc (suc (suc (suc (suc p))))))) l h a b c d e f = absurd (omega arith)
+
+-- a cell of the second list
+listed : {A : Type 0} → true ≡ false → A
+listed e = let z : _≡_ {A = ℕ} 0 1 = cc in absurd (omega arith)
+
+pub as-printed : As-printed
+unfolding pick
+as-printed Timeout-snd p l h = columns (λ (q : ℕ). otherwise Timeout-snd q ≡ false → reading Timeout-snd q ≡ cell Timeout-snd q) p l h (λ _. refl) (λ _. refl) (λ _. refl) listed (λ _. refl) (λ _. refl)
+as-printed Timeout-rcv p l h = columns (λ (q : ℕ). otherwise Timeout-rcv q ≡ false → reading Timeout-rcv q ≡ cell Timeout-rcv q) p l h (λ _. refl) listed listed listed (λ _. refl) (λ _. refl)
+as-printed Timeout-brk p l h = columns (λ (q : ℕ). otherwise Timeout-brk q ≡ false → reading Timeout-brk q ≡ cell Timeout-brk q) p l h (λ _. refl) (λ _. refl) (λ _. refl) (λ _. refl) listed (λ _. refl)
+as-printed Incorrect-rcv-2nd p l h = columns (λ (q : ℕ). otherwise Incorrect-rcv-2nd q ≡ false → reading Incorrect-rcv-2nd q ≡ cell Incorrect-rcv-2nd q) p l h listed listed listed listed listed (λ _. refl)
+as-printed Connect-snd p l h = λ _. refl
+as-printed Data-snd p l h = λ _. refl
+as-printed Data-rcv p l h = λ _. refl
+as-printed Idle-rcv p l h = λ _. refl
+as-printed Incorrect-rcv-1st p l h = λ _. refl
+as-printed ConReq-rcv p l h = λ _. refl
+as-printed ConAck-rcv p l h = λ _. refl
+as-printed AuthReq-rcv p l h = λ _. refl
+as-printed AuthAck-rcv p l h = λ _. refl
+as-printed Discon-snd p l h = λ _. refl
+as-printed FDiscon-snd p l h = λ _. refl
+as-printed Discon-rcv p l h = λ _. refl
+
+ran-out-open : (p : ℕ) → p ≡ 5 → runOutVerdict p ≡ ruled Timeout-rcv 5
+unfolding runOutVerdict pick
+ran-out-open p e = ap runOutVerdict e
+
+ran-out-waiting : (p : ℕ) → (p ≡ 5 → ⊥) → runOutVerdict p ≡ ruled Timeout-brk p
+unfolding runOutVerdict pick
+ran-out-waiting p other = rw (ne-eqb p 5 other)
+
 pub by-the-table : By-the-table
-unfolding judged passed pick
-by-the-table r own time t in-time p = rw (in-time, p)
+unfolding judged ticked passed pick
+by-the-table =
+    record {
+      passing = λ r own time t in-time p. rw (in-time, p);
+      failing = λ r own time t c in-time p. rw (in-time, p);
+      waited = λ r own time t other out. (rw out (ran-out-waiting (r .phase) other), rw out (ran-out-waiting (r .phase) other));
+      silent = λ r own time t going out. (rw out (ran-out-open (r .phase) going), rw out (ran-out-open (r .phase) going));
+      due = λ r time going in-time idle. rw (in-time, eq-eqb (r .phase) 5 going, idle) (ap (ruled Timeout-snd) going);
+    }
 
 pub disconnect-before-closing : Disconnect-before-closing
 disconnect-before-closing r own random declared reason last t net d u p =

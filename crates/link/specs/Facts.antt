@@ -3,7 +3,7 @@
 use mathlib.Core.Path.{_≡_}
 use mathlib.Core.Bool.{Bool, true, false}
 use mathlib.Core.List.{List, [], _∷_}
-use Prim.Native.Nat.{ℕ, _+_}
+use Prim.Native.Nat.{ℕ, _+_, _≤_}
 use Rattle.telegram.specs.Choice.{pick}
 use Rattle.telegram.specs.Commands.{kindOfCommand}
 use Rattle.telegram.specs.Writers.{leftBy, writesDisconnect}
@@ -11,10 +11,12 @@ use Rattle.telegram.specs.Writers.Outcome.{wrote}
 use Rattle.telegram.specs.Facts.{Taken}
 use Rattle.telegram.specs.declared.Kind.the-variants.{Disconnect}
 use Rattle.telegram.specs.Check.{commandOf, checkOf}
-use Rattle.telegram.specs.declared.Check.the-variants.{Passes}
+use Rattle.telegram.specs.declared.Clause.{Clause}
+use Rattle.telegram.specs.declared.Check.the-variants.{Passes, Failed}
 use Rattle.link.specs.Records.{endOf, atRest, recordInRange, closedBy}
-use Rattle.link.specs.Times.{waitOver, watchOver}
-use Rattle.link.specs.Judged.{rowOf, ruled, narrowed, expectedNow, runOut, judged}
+use Rattle.link.specs.Times.{waitOver, watchOver, idleDue}
+use Rattle.link.specs.Table.{Row, cell, reading, otherwise, Timeout-snd, Timeout-rcv, Timeout-brk, Incorrect-rcv-1st}
+use Rattle.link.specs.Judged.{rowOf, ruled, narrowed, expectedNow, runOut, judged, ticked}
 use Rattle.link.specs.declared.Verdict.the-variants.{Close}
 use Rattle.link.specs.Steps.{actOut, openOf, closeOf, sendOf, receivedOf, tickOf}
 use Rattle.link.specs.declared.Record.{Record}
@@ -77,9 +79,23 @@ pub record Watch : Type 0 where
   pub too-late : (r : Record) → (r .watched ≡ 0 → ⊥) → watchOver r (r .«taken_at» + (r .watched + 1)) ≡ true
   pub none : (r : Record) (time : ℕ) → r .watched ≡ 0 → watchOver r time ≡ false
 
--- A telegram that comes in time and passes the check does what the cell of its row and phase says, narrowed where the table leaves version or authentication
--- number open (`narrowed` in Judged, the cells ConReq_rcv/Idle, ConAck_rcv/wConAck, AuthReq_rcv/wAuthReq, AuthAck_rcv/wAuthAck, and no other).
-abbrev pub By-the-table : Type 0
-By-the-table =
-    (r : Record) (own time : ℕ) (t : List ℕ) → runOut r time ≡ false → checkOf (endOf r own) (expectedNow r) t ≡ Passes
-    → judged r own time t ≡ narrowed (ruled (rowOf (kindOfCommand (commandOf t))) (r .phase)) r t
+-- Every cell but those of the second list is read as printed.
+abbrev pub As-printed : Type 0
+As-printed = (row : Row) (p : ℕ) → 1 ≤ p → p ≤ 6 → otherwise row p ≡ false → reading row p ≡ cell row p
+
+-- What is asked for is what the cell of the row and the phase says.
+pub record By-the-table : Type 0 where
+  -- a telegram that comes in time and passes the check: its kind's row, narrowed where the table leaves version or authentication number open
+  pub passing : (r : Record) (own time : ℕ) (t : List ℕ) → runOut r time ≡ false → checkOf (endOf r own) (expectedNow r) t ≡ Passes
+      → judged r own time t ≡ narrowed (ruled (rowOf (kindOfCommand (commandOf t))) (r .phase)) r t
+  -- one that comes in time and fails it, whichever clause
+  pub failing : (r : Record) (own time : ℕ) (t : List ℕ) (c : Clause) → runOut r time ≡ false → checkOf (endOf r own) (expectedNow r) t ≡ Failed c
+      → judged r own time t ≡ ruled Incorrect-rcv-1st (r .phase)
+  -- a wait that ran out, on a telegram or a tick
+  pub waited : (r : Record) (own time : ℕ) (t : List ℕ) → (r .phase ≡ 5 → ⊥) → runOut r time ≡ true
+      → (judged r own time t ≡ ruled Timeout-brk (r .phase)) × (ticked r time ≡ ruled Timeout-brk (r .phase))
+  -- the watch of an open connection that ran out
+  pub silent : (r : Record) (own time : ℕ) (t : List ℕ) → r .phase ≡ 5 → runOut r time ≡ true
+      → (judged r own time t ≡ ruled Timeout-rcv 5) × (ticked r time ≡ ruled Timeout-rcv 5)
+  -- an idle telegram that is due
+  pub due : (r : Record) (time : ℕ) → r .phase ≡ 5 → runOut r time ≡ false → idleDue r time ≡ true → ticked r time ≡ ruled Timeout-snd 5

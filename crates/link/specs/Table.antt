@@ -1,10 +1,11 @@
 -- The transition table of 5.5.1.5 as printed, row by row, and beside it the cells that document 01 reads otherwise.
 -- Assumes nothing.
+use mathlib.Core.Bool.{Bool, false}
 use mathlib.Core.List.{List, [], _∷_}
 use Prim.Native.Nat.{ℕ, _-_}
 use lib.ListN.{getD}
-use lib.Dec.{eqb}
-use Rattle.telegram.specs.Choice.{pick}
+use lib.Dec.{leb, eqb}
+use Rattle.telegram.specs.Choice.{pick, all}
 
 -- The actions of 5.5.1.4.
 pub data Action : Type 0 where
@@ -77,3 +78,22 @@ reading AuthAck-rcv p = cell AuthAck-rcv p
 reading Discon-snd p = cell Discon-snd p
 reading FDiscon-snd p = cell FDiscon-snd p
 reading Discon-rcv p = cell Discon-rcv p
+
+-- Which cells these are.
+abbrev pub otherwise : Row → ℕ → Bool
+otherwise Timeout-snd p = eqb p 4
+otherwise Timeout-rcv p = all (leb 2 p ∷ leb p 4 ∷ [])
+otherwise Timeout-brk p = eqb p 5
+otherwise Incorrect-rcv-2nd p = leb p 5
+otherwise Connect-snd p = false
+otherwise Data-snd p = false
+otherwise Data-rcv p = false
+otherwise Idle-rcv p = false
+otherwise Incorrect-rcv-1st p = false
+otherwise ConReq-rcv p = false
+otherwise ConAck-rcv p = false
+otherwise AuthReq-rcv p = false
+otherwise AuthAck-rcv p = false
+otherwise Discon-snd p = false
+otherwise FDiscon-snd p = false
+otherwise Discon-rcv p = false
