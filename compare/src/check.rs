@@ -3,7 +3,7 @@
 use crate::telegram::{idle_time_allowed, new_setup_known, sealed, End, Kind, Level, Way, BAD_TELEGRAM, LONGEST, OUT_OF_RANGE};
 
 /// Document 01: a telegram to be checked has at least this many bytes, or it is refused.
-const SHORTEST: usize = 6;
+pub const SHORTEST: usize = 6;
 
 /// What the check asks, one question each.
 #[derive(Clone, Copy, PartialEq, Debug)]
@@ -34,6 +34,16 @@ pub enum Verdict {
     Fails(Clause),
 }
 
+/// The byte with this number in the tables of 5.2, which count from 1. Past the end it is 0: the clause about the length has failed then.
+pub fn byte(telegram: &[u8], number: usize) -> u8 {
+    telegram.get(number - 1).copied().unwrap_or(0)
+}
+
+/// 5.1.1.6: the number that stands in these bytes, lowest byte first.
+pub fn field(telegram: &[u8], first: usize, last: usize) -> u32 {
+    (first..=last).rev().fold(0, |number, k| number << 8 | u32::from(byte(telegram, k)))
+}
+
 /// A telegram, the way it came and the number expected of it. The way and the number never come from the frame.
 struct Received<'a> {
     level: Level,
@@ -43,14 +53,12 @@ struct Received<'a> {
 }
 
 impl Received<'_> {
-    /// The byte with this number in the tables of 5.2, which count from 1. Past the end it is 0: the clause about the length has failed then.
     fn byte(&self, number: usize) -> u8 {
-        self.telegram.get(number - 1).copied().unwrap_or(0)
+        byte(self.telegram, number)
     }
 
-    /// 5.1.1.6: the number that stands in these bytes, lowest byte first.
     fn field(&self, first: usize, last: usize) -> u32 {
-        (first..=last).rev().fold(0, |number, k| number << 8 | u32::from(self.byte(k)))
+        field(self.telegram, first, last)
     }
 
     fn kind(&self) -> Option<Kind> {

@@ -88,7 +88,7 @@ pub fn lengths() -> Vec<Case> {
 }
 
 /// The draft with one clause broken, in several ways. Where a kind has nothing by which to break it alone, there are none.
-fn broken(draft: &Draft, clause: Clause) -> Vec<Draft> {
+pub fn broken(draft: &Draft, clause: Clause) -> Vec<Draft> {
     let [number, command] = [draft.body[0], draft.body[1]];
     match (clause, draft.kind) {
         (Clause::Level, _) => [0x40, 0x80, 0xC0].map(|bits| draft.with(1, command ^ bits)).to_vec(),

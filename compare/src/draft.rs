@@ -19,7 +19,8 @@ pub struct Draft {
 }
 
 impl Draft {
-    fn new(sender: End, telegram: &Telegram) -> Draft {
+    /// A good telegram of this sender, as its partner checks it.
+    pub fn new(sender: End, telegram: &Telegram) -> Draft {
         let level = if sender.level == 4 { Level::Sl4 } else { Level::Sl2 };
         Draft {
             end: sender.mirrored(),

@@ -53,13 +53,13 @@ pub fn word32(first: &[u8], second: &[u8]) -> u64 {
 }
 
 /// A run as pointer and length. An empty one goes as a null pointer, which the header allows.
-fn read(run: &[u8]) -> (*const u8, usize) {
+pub fn read(run: &[u8]) -> (*const u8, usize) {
     let pointer = if run.is_empty() { std::ptr::null() } else { run.as_ptr() };
     (pointer, run.len())
 }
 
 /// An output buffer, likewise.
-fn write(out: &mut [u8]) -> (*mut u8, usize) {
+pub fn write(out: &mut [u8]) -> (*mut u8, usize) {
     let pointer = if out.is_empty() { std::ptr::null_mut() } else { out.as_mut_ptr() };
     (pointer, out.len())
 }

@@ -4,8 +4,20 @@
 mod case;
 mod check;
 mod check_cases;
+mod conversations;
 mod draft;
 mod library;
+mod library_link;
+mod link;
+mod link_call;
+mod link_case;
+mod link_cases;
+mod link_demands;
+mod link_refusals;
+mod link_samples;
+mod link_step;
+mod link_times;
+mod links;
 mod program;
 mod random;
 mod random_cases;
@@ -19,6 +31,9 @@ mod words;
 mod worked;
 mod write_cases;
 mod wrong;
+mod wrong_calls;
+mod wrong_link;
+mod wrong_steps;
 
 use std::process::ExitCode;
 use tally::Tally;
@@ -46,6 +61,7 @@ fn main() -> ExitCode {
         telegrams::wrong_programs_are_seen(&mut tally);
         telegrams::systematic(&mut tally);
         telegrams::random(&mut tally);
+        links::compare_all(&mut tally);
     }
     tally.finish()
 }

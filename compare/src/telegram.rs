@@ -64,7 +64,7 @@ impl Level {
     }
 
     /// 5.1.4.2.1 and 5.1.4.3.1: what is added to the random number received at set-up.
-    fn increment(self) -> u32 {
+    pub fn increment(self) -> u32 {
         match self {
             Level::Sl4 => 1,
             Level::Sl2 => 2,
@@ -341,7 +341,7 @@ impl Telegram {
     }
 
     /// Whether answer 5 lets the values through.
-    fn allowed(&self, level: Level) -> bool {
+    pub fn allowed(&self, level: Level) -> bool {
         let values = match self {
             Telegram::Request { idle_time, .. } | Telegram::Confirm { idle_time, .. } => idle_time_allowed(*idle_time),
             Telegram::Disconnect { new_setup, reason, .. } => new_setup_known(*new_setup) && reason_listed(*reason),

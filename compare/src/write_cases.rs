@@ -46,7 +46,7 @@ pub fn rooms() -> Vec<Case> {
 }
 
 /// Numbers at which bytes carry over and the number wraps.
-const NUMBERS: [u32; 13] = [
+pub const NUMBERS: [u32; 13] = [
     0x0000_0000,
     0x0000_0001,
     0x0000_00FF,
