@@ -4,7 +4,7 @@
 use mathlib.Core.Path.{_≡_, refl}
 use mathlib.Core.Bool.{Bool, true, false}
 use mathlib.Core.List.{List, [], _∷_}
-use Prim.Native.Nat.{ℕ, zero, suc, _≤_}
+use Prim.Native.Nat.{ℕ, _≤_}
 use native.Mathlib.Omega.{arith}
 use lib.ListN.{length}
 use lib.Dec.{leb, eqb}
@@ -22,9 +22,9 @@ use Rattle.telegram.specs.declared.Kind.{Kind}
 use Rattle.telegram.specs.declared.Kind.the-variants as kind
 use Rattle.telegram.specs.declared.Check.{Check}
 use Rattle.telegram.specs.declared.Check.the-variants.{Passes, Failed, Refused}
-use Rattle.telegram.proofs.Refusals.{both-true}
+use Rattle.telegram.proofs.Refusals.{both-true, both-are}
 use Rattle.telegram.proofs.Apart.{passed}
-use Rattle.link.proofs.Cases.{live-phase}
+use Rattle.link.proofs.Cases.{live-phase, phases}
 use Rattle.link.specs.Records.{endOf, isPhase, isClosed, atRest, recordInRange, become, closedBy}
 use Rattle.link.specs.Table.{Incorrect-rcv-1st}
 use Rattle.link.specs.Judged.{passed as passed-kind, rowOf, ruled, goodNumber, narrowed, checkedBy, expectedNow, runOut, runOutVerdict, judged, ticked}
@@ -35,10 +35,6 @@ use Rattle.link.specs.declared.Step.{Step}
 use Rattle.link.specs.declared.Event.{Event}
 use Rattle.link.specs.declared.Verdict.{Verdict}
 use Rattle.link.specs.declared.Verdict.the-variants.{Nothing, Confirm, Authenticate, Acknowledge, Open, Data, Idle, SendIdle, Disconnected, Close}
-
-both-are : (a b : Bool) → a ≡ true → b ≡ true → pick a b false ≡ true
-unfolding pick
-both-are a b p q = rw (p, q)
 
 -- the five parts of a record in range
 record Parts (r : Record) (own : ℕ) : Type 0 where
@@ -136,16 +132,6 @@ act-accepted Idle r own time random declared t net d h g i = quiet-accepted _ _ 
 act-accepted SendIdle r own time random declared t net d h g i = writing-accepted _ r _ own 6 _ h (sent-accepted r own time h)
 act-accepted Disconnected r own time random declared t net d h g i = quiet-accepted _ _ own (closed-accepted _ r own h)
 act-accepted (Close reason last) r own time random declared t net d h g i = writing-accepted _ r _ own 5 _ h (closed-accepted last r own h)
-
--- what holds in each of the phases from 1 to 5 holds in any of them
-phases : (P : ℕ → Type 0) (p : ℕ) → 1 ≤ p → p ≤ 5 → P 1 → P 2 → P 3 → P 4 → P 5 → P p
-phases P zero l h a b c d e = absurd (omega arith)
-phases P (suc zero) l h a b c d e = a
-phases P (suc (suc zero)) l h a b c d e = b
-phases P (suc (suc (suc zero))) l h a b c d e = c
-phases P (suc (suc (suc (suc zero)))) l h a b c d e = d
-phases P (suc (suc (suc (suc (suc zero))))) l h a b c d e = e
-phases P (suc (suc (suc (suc (suc (suc p)))))) l h a b c d e = absurd (omega arith)
 
 not-both : {A : Type 0} (b : Bool) → b ≡ false → b ≡ true → A
 not-both b p q = let z : _≡_ {A = ℕ} 0 1 = cc in absurd (omega arith)

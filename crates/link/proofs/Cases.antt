@@ -42,29 +42,32 @@ pub act-out-is : (v w : Verdict) (r : Record) (own random declared : ℕ) (t net
     → x ≡ actOut w r own random declared t net d → x ≡ actOut v r own random declared t net d
 act-out-is v w r own random declared t net d x e h = rw e h
 
--- what holds in each of the phases from 2 to 5 holds in any of them
-awaited : (P : ℕ → Type 0) (p : ℕ) → 2 ≤ p → p ≤ 5 → P 2 → P 3 → P 4 → P 5 → P p
-awaited P zero l h a b c d = absurd (omega arith)
-awaited P (suc zero) l h a b c d = absurd (omega arith)
-awaited P (suc (suc zero)) l h a b c d = a
-awaited P (suc (suc (suc zero))) l h a b c d = b
-awaited P (suc (suc (suc (suc zero)))) l h a b c d = c
-awaited P (suc (suc (suc (suc (suc zero))))) l h a b c d = d
-awaited P (suc (suc (suc (suc (suc (suc p)))))) l h a b c d = absurd (omega arith)
+-- what holds in each of the six phases holds in any of them
+pub columns : (P : ℕ → Type 0) (p : ℕ) → 1 ≤ p → p ≤ 6 → P 1 → P 2 → P 3 → P 4 → P 5 → P 6 → P p
+columns P zero l h a b c d e f = absurd (omega arith)
+columns P (suc zero) l h a b c d e f = a
+columns P (suc (suc zero)) l h a b c d e f = b
+columns P (suc (suc (suc zero))) l h a b c d e f = c
+columns P (suc (suc (suc (suc zero)))) l h a b c d e f = d
+columns P (suc (suc (suc (suc (suc zero))))) l h a b c d e f = e
+columns P (suc (suc (suc (suc (suc (suc zero)))))) l h a b c d e f = f
+columns P (suc (suc (suc (suc (suc (suc (suc p))))))) l h a b c d e f = absurd (omega arith)
+
+-- and so from 1 to 5
+pub phases : (P : ℕ → Type 0) (p : ℕ) → 1 ≤ p → p ≤ 5 → P 1 → P 2 → P 3 → P 4 → P 5 → P p
+phases P p l h a b c d e = columns (λ (q : ℕ). q ≤ 5 → P q) p l (omega arith) (λ _. a) (λ _. b) (λ _. c) (λ _. d) (λ _. e) (λ m. absurd (omega arith)) h
 
 -- an incorrect telegram closes in every phase but the closed one
 pub incorrect : (p : ℕ) → 2 ≤ p → p ≤ 5 → Close 0x06 false ≡ ruled Incorrect-rcv-1st p
-incorrect p l h = awaited (λ (q : ℕ). Close 0x06 false ≡ ruled Incorrect-rcv-1st q) p l h refl refl refl refl
+incorrect p l h =
+    phases (λ (q : ℕ). 2 ≤ q → Close 0x06 false ≡ ruled Incorrect-rcv-1st q) p (omega arith) h (λ m. absurd (omega arith)) (λ _. refl) (λ _. refl) (λ _. refl) (λ _. refl) l
 
 -- a wait that fails during authentication closes finally
 pub unanswered : (p : ℕ) → 3 ≤ p → p ≤ 4 → Close 0x03 true ≡ ruled Timeout-brk p
 unfolding pick
-unanswered zero l h = absurd (omega arith)
-unanswered (suc zero) l h = absurd (omega arith)
-unanswered (suc (suc zero)) l h = absurd (omega arith)
-unanswered (suc (suc (suc zero))) l h = refl
-unanswered (suc (suc (suc (suc zero)))) l h = refl
-unanswered (suc (suc (suc (suc (suc p))))) l h = absurd (omega arith)
+unanswered p l h =
+    phases (λ (q : ℕ). 3 ≤ q → q ≤ 4 → Close 0x03 true ≡ ruled Timeout-brk q) p (omega arith) (omega arith) (λ m _. absurd (omega arith)) (λ m _. absurd (omega arith))
+    (λ _ _. refl) (λ _ _. refl) (λ _ m. absurd (omega arith)) l h
 
 pub kind-ruled : (k h : Kind) (p : ℕ) (v : Verdict) → k ≡ h → v ≡ ruled (rowOf h) p → v ≡ ruled (rowOf k) p
 kind-ruled k h p v e q = rw e q

@@ -3,7 +3,7 @@
 use mathlib.Core.Path.{_≡_, refl, ap}
 use mathlib.Core.Bool.{Bool, true, false}
 use mathlib.Core.List.{List, []}
-use Prim.Native.Nat.{ℕ, zero, suc, _+_, _≤_}
+use Prim.Native.Nat.{ℕ, _+_}
 use native.Mathlib.Omega.{arith}
 use lib.Dec.{ltb, eqb}
 use borrow.Author.Tests.{le-ltb, lt-ltb, eq-eqb, ne-eqb}
@@ -11,6 +11,7 @@ use Rattle.telegram.specs.Choice.{pick}
 use Rattle.telegram.specs.Writers.{Outcome, leftBy}
 use Rattle.telegram.proofs.Taken.{disconnect-taken}
 use Rattle.telegram.specs.declared.Written.{Written}
+use Rattle.link.proofs.Cases.{columns}
 use Rattle.link.specs.Records.{endOf, atRest, become, closedBy}
 use Rattle.link.specs.Times.{gap, waitOver, watchOver}
 use Rattle.link.specs.Table.{cell, reading, otherwise, Connect-snd, Data-snd, Timeout-snd, Timeout-rcv, Timeout-brk, Data-rcv, Idle-rcv, Incorrect-rcv-1st, Incorrect-rcv-2nd, ConReq-rcv, ConAck-rcv, AuthReq-rcv, AuthAck-rcv, Discon-snd, FDiscon-snd, Discon-rcv}
@@ -148,17 +149,6 @@ watch =
     }
 
 -- The table
-
--- what holds in each of the six phases holds in any of them
-columns : (P : ℕ → Type 0) (p : ℕ) → 1 ≤ p → p ≤ 6 → P 1 → P 2 → P 3 → P 4 → P 5 → P 6 → P p
-columns P zero l h a b c d e f = absurd (omega arith)
-columns P (suc zero) l h a b c d e f = a
-columns P (suc (suc zero)) l h a b c d e f = b
-columns P (suc (suc (suc zero))) l h a b c d e f = c
-columns P (suc (suc (suc (suc zero)))) l h a b c d e f = d
-columns P (suc (suc (suc (suc (suc zero))))) l h a b c d e f = e
-columns P (suc (suc (suc (suc (suc (suc zero)))))) l h a b c d e f = f
-columns P (suc (suc (suc (suc (suc (suc (suc p))))))) l h a b c d e f = absurd (omega arith)
 
 -- a cell of the second list
 listed : {A : Type 0} → true ≡ false → A

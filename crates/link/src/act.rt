@@ -118,17 +118,8 @@ fn confirm_step(
 }
 
 // A good confirm is answered with the authentication.
-fn authenticate_step(
-    record: Record,
-    own: u32,
-    time: u64,
-    random: u32,
-    declared: u32,
-    telegram: &[u8],
-    net: &[u8],
-    out: &mut [u8],
-) -> Step
-    ensures { λ s. ⌜ (s ≡ actOf Verdict.Authenticate «record» own time random declared (now (telegram .entry)) (now (net .entry)) (now (out .entry))) × (now (out .exit) ≡ actOut Verdict.Authenticate «record» own random declared (now (telegram .entry)) (now (net .entry)) (now (out .entry))) ⌝ }
+fn authenticate_step(record: Record, own: u32, time: u64, telegram: &[u8], out: &mut [u8]) -> Step
+    ensures { λ s. ⌜ (s ≡ actOf Verdict.Authenticate «record» own time 0 0 (now (telegram .entry)) [] (now (out .entry))) × (now (out .exit) ≡ actOut Verdict.Authenticate «record» own 0 0 (now (telegram .entry)) [] (now (out .entry))) ⌝ }
 {
     let end = end_of(record, own);
     let received = telegram::random_number(telegram);
@@ -144,17 +135,8 @@ fn authenticate_step(
 }
 
 // A good authentication is acknowledged, and the connection is open.
-fn acknowledge_step(
-    record: Record,
-    own: u32,
-    time: u64,
-    random: u32,
-    declared: u32,
-    telegram: &[u8],
-    net: &[u8],
-    out: &mut [u8],
-) -> Step
-    ensures { λ s. ⌜ (s ≡ actOf Verdict.Acknowledge «record» own time random declared (now (telegram .entry)) (now (net .entry)) (now (out .entry))) × (now (out .exit) ≡ actOut Verdict.Acknowledge «record» own random declared (now (telegram .entry)) (now (net .entry)) (now (out .entry))) ⌝ }
+fn acknowledge_step(record: Record, own: u32, time: u64, out: &mut [u8]) -> Step
+    ensures { λ s. ⌜ (s ≡ actOf Verdict.Acknowledge «record» own time 0 0 [] [] (now (out .entry))) × (now (out .exit) ≡ actOut Verdict.Acknowledge «record» own 0 0 [] [] (now (out .entry))) ⌝ }
 {
     let end = end_of(record, own);
     let received = std::num::wrapping_add_u32(record.expected, 0xFFFF_FFFF);
@@ -240,26 +222,8 @@ pub(crate) fn act(
     match verdict {
         Verdict::Nothing => quiet_step(record, Event::Nothing),
         Verdict::Confirm => confirm_step(record, own, time, random, declared, telegram, net, out),
-        Verdict::Authenticate => authenticate_step(
-            record,
-            own,
-            time,
-            random,
-            declared,
-            telegram,
-            net,
-            out,
-        ),
-        Verdict::Acknowledge => acknowledge_step(
-            record,
-            own,
-            time,
-            random,
-            declared,
-            telegram,
-            net,
-            out,
-        ),
+        Verdict::Authenticate => authenticate_step(record, own, time, telegram, out),
+        Verdict::Acknowledge => acknowledge_step(record, own, time, out),
         Verdict::Open => quiet_step(after_taking(record, time), Event::Opened),
         Verdict::Data => quiet_step(after_taking(record, time), data_event(telegram)),
         Verdict::Idle => quiet_step(after_taking(record, time), Event::Nothing),

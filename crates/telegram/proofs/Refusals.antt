@@ -31,6 +31,10 @@ unfolding pick
 both-true true b e = (refl, e)
 both-true false b e = let z : _≡_ {A = ℕ} 0 1 = cc in absurd (omega arith)
 
+pub both-are : (a b : Bool) → a ≡ true → b ≡ true → pick a b false ≡ true
+unfolding pick
+both-are a b p q = rw (p, q)
+
 pub either-true : (a b : Bool) → pick a true b ≡ true → (a ≡ true) ⊎ (b ≡ true)
 unfolding pick
 either-true true b e = inl refl

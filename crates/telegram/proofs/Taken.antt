@@ -35,15 +35,11 @@ use Rattle.telegram.specs.declared.Kind.{Kind}
 use Rattle.telegram.specs.declared.Kind.the-variants.{Request, Confirm, Authentication, Acknowledgement, Disconnect, Idle, Data}
 use Rattle.telegram.specs.declared.Part.{Part}
 use Rattle.telegram.specs.declared.Check.the-variants.{Passes}
-use Rattle.telegram.proofs.Refusals.{both-true, either-true, clear, data-room, data-command, data-small, data-kind}
+use Rattle.telegram.proofs.Refusals.{both-true, both-are, either-true, clear, data-room, data-command, data-small, data-kind}
 use Rattle.telegram.proofs.Widths.{word-some, width-is, generator-good, top-small}
 use Rattle.telegram.proofs.Cases.{header-some, most-small}
 use Rattle.telegram.proofs.Sealing.{body-length, sealed-length}
 use Rattle.telegram.proofs.ReadBack.{Fit, implicit-bytes, fields-length, fields-bytes, fields-back}
-
-both-are : (a b : Bool) → a ≡ true → b ≡ true → pick a b false ≡ true
-unfolding pick
-both-are a b p q = rw (p, q)
 
 -- a chain of tests that all hold ends in what they lead to
 step : {A : Type 0} (b : Bool) (x y z : A) → b ≡ true → x ≡ z → pick b x y ≡ z
