@@ -77,6 +77,12 @@ fn waits_by_tick(level: u32) {
         6001,
     );
     passes(
+        b"tick, acknowledgement awaited for 5000",
+        level,
+        link::ACKNOWLEDGEMENT_AWAITED,
+        6000,
+    );
+    passes(
         b"tick, acknowledgement awaited for 5001",
         level,
         link::ACKNOWLEDGEMENT_AWAITED,
