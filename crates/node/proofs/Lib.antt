@@ -1,0 +1,7 @@
+pub mod Calling
+pub mod Cases
+pub mod Order
+pub mod Rows
+pub mod Searches
+pub mod Shared
+pub mod Walk

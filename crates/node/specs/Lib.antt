@@ -1,0 +1,6 @@
+pub mod Heads
+pub mod Accepted
+pub mod Matching
+pub mod Refusals
+pub mod Calls
+pub mod Plain
