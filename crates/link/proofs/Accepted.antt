@@ -37,14 +37,14 @@ use Rattle.link.specs.declared.Verdict.{Verdict}
 use Rattle.link.specs.declared.Verdict.the-variants.{Nothing, Confirm, Authenticate, Acknowledge, Open, Data, Idle, SendIdle, Disconnected, Close}
 
 -- the five parts of a record in range
-record Parts (r : Record) (own : ℕ) : Type 0 where
-  end : inRange (endOf r own) ≡ true
-  phase : isPhase (r .phase) ≡ true
-  declared : goodIdle (r .declared) ≡ true
-  watched : goodIdle (r .watched) ≡ true
-  rest : pick (isClosed (r .phase)) (atRest r) true ≡ true
+pub record Parts (r : Record) (own : ℕ) : Type 0 where
+  pub end : inRange (endOf r own) ≡ true
+  pub phase : isPhase (r .phase) ≡ true
+  pub declared : goodIdle (r .declared) ≡ true
+  pub watched : goodIdle (r .watched) ≡ true
+  pub rest : pick (isClosed (r .phase)) (atRest r) true ≡ true
 
-parts : (r : Record) (own : ℕ) → recordInRange r own ≡ true → Parts r own
+pub parts : (r : Record) (own : ℕ) → recordInRange r own ≡ true → Parts r own
 unfolding recordInRange
 parts r own h =
     let a = both-true (inRange (endOf r own)) (all (isPhase (r .phase) ∷ goodIdle (r .declared) ∷ goodIdle (r .watched) ∷ pick (isClosed (r .phase)) (atRest r) true ∷ [])) h in
@@ -179,7 +179,7 @@ stored r own time t l h = split (runOut r time)
     split false s = by-check (checkOf (endOf r own) (expectedNow r) t) r own t refl l h s
 
 -- no refusal: the values are allowed
-cleared : (a b c d e f : Bool) → firstRefusal a b c d e f ≡ 0 → f ≡ true
+pub cleared : (a b c d e f : Bool) → firstRefusal a b c d e f ≡ 0 → f ≡ true
 unfolding firstRefusal pick
 cleared true true true true true true p = refl
 cleared true true true true true false p = absurd (omega arith)

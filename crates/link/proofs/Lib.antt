@@ -1,3 +1,5 @@
 pub mod Cases
 pub mod Facts
 pub mod Accepted
+pub mod Answers
+pub mod Timers

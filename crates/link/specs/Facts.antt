@@ -18,7 +18,7 @@ use Rattle.link.specs.Times.{waitOver, watchOver, idleDue}
 use Rattle.link.specs.Table.{Row, cell, reading, otherwise, Timeout-snd, Timeout-rcv, Timeout-brk, Incorrect-rcv-1st}
 use Rattle.link.specs.Judged.{rowOf, ruled, narrowed, expectedNow, runOut, judged, ticked}
 use Rattle.link.specs.declared.Verdict.the-variants.{Close}
-use Rattle.link.specs.Steps.{actOut, openOf, closeOf, sendOf, receivedOf, tickOf}
+use Rattle.link.specs.Steps.{actOut, openRefusal, openOf, closeRefusal, closeOf, sendRefusal, sendOf, receivedRefusal, receivedOf, tickRefusal, tickOf}
 use Rattle.link.specs.declared.Record.{Record}
 use Rattle.link.specs.declared.IdleTime.{IdleTime}
 
@@ -55,6 +55,29 @@ pub record Stays-accepted : Type 0 where
   pub by-received : (r : Record) (own time random : ℕ) (i : IdleTime) (t net d : List ℕ) → recordInRange r own ≡ true
       → recordInRange (receivedOf r own time random i t net d .«record») own ≡ true
   pub by-tick : (r : Record) (own time : ℕ) (d : List ℕ) → recordInRange r own ≡ true → recordInRange (tickOf r own time d .«record») own ≡ true
+
+-- A step answers its first refusal, and where there is none it is done: what the step lets through, no writer below it refuses.
+pub record Answers : Type 0 where
+  pub by-open : (r : Record) (own time random : ℕ) (i : IdleTime) (net d : List ℕ) → openOf r own time random i net d .answer .number ≡ openRefusal r own i net d
+  pub by-close : (r : Record) (own type reason : ℕ) (text d : List ℕ) → closeOf r own type reason text d .answer .number ≡ closeRefusal r own type reason text d
+  pub by-send : (r : Record) (own time low : ℕ) (net d : List ℕ) → sendOf r own time low net d .answer .number ≡ sendRefusal r own low net d
+  pub by-received : (r : Record) (own time random : ℕ) (i : IdleTime) (t net d : List ℕ)
+      → receivedOf r own time random i t net d .answer .number ≡ receivedRefusal r own i t net d
+  pub by-tick : (r : Record) (own time : ℕ) (d : List ℕ) → tickOf r own time d .answer .number ≡ tickRefusal r own d
+
+-- The timers of a record are not later than a time.
+pub record Timers (time : ℕ) (r : Record) : Type 0 where
+  pub sent-at : r .«sent_at» ≤ time
+  pub taken-at : r .«taken_at» ≤ time
+
+-- No step sets a timer later than its own time.
+pub record Timers-kept : Type 0 where
+  pub by-open : (r : Record) (own time random : ℕ) (i : IdleTime) (net d : List ℕ) → Timers time r → Timers time (openOf r own time random i net d .«record»)
+  pub by-close : (r : Record) (own time type reason : ℕ) (text d : List ℕ) → Timers time r → Timers time (closeOf r own type reason text d .«record»)
+  pub by-send : (r : Record) (own time low : ℕ) (net d : List ℕ) → Timers time r → Timers time (sendOf r own time low net d .«record»)
+  pub by-received : (r : Record) (own time random : ℕ) (i : IdleTime) (t net d : List ℕ) → Timers time r
+      → Timers time (receivedOf r own time random i t net d .«record»)
+  pub by-tick : (r : Record) (own time : ℕ) (d : List ℕ) → Timers time r → Timers time (tickOf r own time d .«record»)
 
 -- A disconnect that a closing writes carries the number from before it: the mirrored end that expects that number takes it, with its type and reason.
 abbrev pub Disconnect-before-closing : Type 0

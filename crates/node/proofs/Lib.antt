@@ -1,5 +1,6 @@
 pub mod Calling
 pub mod Cases
+pub mod Facts
 pub mod Order
 pub mod Rows
 pub mod Searches

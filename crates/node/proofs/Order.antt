@@ -1,5 +1,6 @@
 -- The order of the refusals: what is asked of the table comes first, then the step's own refusals of the record, and a step that is refused changes nothing.
 --     refused-by-table     a refusal before the record is looked at
+--     refused-answered, answered-by     which number is answered
 --     left-by-step         else what the step leaves is what the call leaves
 -- Assumes nothing.
 use mathlib.Core.Path.{_≡_, refl, sym, ap, _∙_}
@@ -34,7 +35,7 @@ table-first true true true true false rest = refl
 table-first true true true true true rest = refl
 
 -- all five hold
-record Fine (a r t c p : Bool) : Type 0 where
+pub record Fine (a r t c p : Bool) : Type 0 where
   pub table : a ≡ true
   pub room : r ≡ true
   pub timely : t ≡ true
@@ -135,15 +136,19 @@ picked-yes : (b : Bool) (x y : ℕ) → b ≡ true → pick b x y ≡ x
 unfolding pick
 picked-yes b x y e = rw e refl
 
+-- a refusal of the table is the first of the whole list
+pub refused-answered : (c : Call) (h : Head) (t : List Record) (time : ℕ) (d : List ℕ) → T (not (eqb (before h t time (length d) (carriedBy c) (placeOf c t)) 0))
+    → first (order (asked c h t time d)) ≡ before h t time (length d) (carriedBy c) (placeOf c t)
+refused-answered c h t time d z = by-table c h t time d ∙ picked-no _ _ _ (is-no _ z)
+
 pub refused-by-table : (c : Call) (h : Head) (t : List Record) (time : ℕ) (d : List ℕ) → T (not (eqb (before h t time (length d) (carriedBy c) (placeOf c t)) 0))
     → Said c h t time d (refusedOutcome (before h t time (length d) (carriedBy c) (placeOf c t)) h) t d
 unfolding pick called
 refused-by-table c h t time d z =
-    let f = is-no (eqb (before h t time (length d) (carriedBy c) (placeOf c t)) 0) z in
-    let e = by-table c h t time d ∙ picked-no (eqb (before h t time (length d) (carriedBy c) (placeOf c t)) 0) _ _ f in rw (e, f) (refl, (refl, refl))
+    let f = is-no (eqb (before h t time (length d) (carriedBy c) (placeOf c t)) 0) z in rw (refused-answered c h t time d z, f) (refl, (refl, refl))
 
 -- and where there is none, all is as it should be before the record is looked at
-fine-by : (c : Call) (h : Head) (t : List Record) (time : ℕ) (d : List ℕ) → T (eqb (before h t time (length d) (carriedBy c) (placeOf c t)) 0)
+pub fine-by : (c : Call) (h : Head) (t : List Record) (time : ℕ) (d : List ℕ) → T (eqb (before h t time (length d) (carriedBy c) (placeOf c t)) 0)
     → Fine (accepted h t) (leb longest (length d)) (leb (h .latest) time) (carriedBy c) (ltb (placeOf c t) (length t))
 unfolding before
 fine-by c h t time d z = all-fine _ _ _ _ _ z
@@ -162,10 +167,14 @@ by-refusal c h t time d true f e = rw (e, f) (refl, (refl, refl))
 by-refusal c h t time d false f e =
     let g = refused-step c (recordAt t (placeOf c t)) (h .own) time d f in rw (e, f, g .0, g .1, f) (refl, (put-back t (placeOf c t), refl))
 
+-- the record's own refusal is the first of the whole list
+pub answered-by : (c : Call) (h : Head) (t : List Record) (time : ℕ) (d : List ℕ) → T (eqb (before h t time (length d) (carriedBy c) (placeOf c t)) 0)
+    → first (order (asked c h t time d)) ≡ refusalOf c (recordAt t (placeOf c t)) (h .own) d
+answered-by c h t time d z =
+    let fine = fine-by c h t time d z in
+    by-table c h t time d ∙ picked-yes _ _ _ (is-yes _ z) ∙ sym (own-refusal c h t time d (in-range-at h t (placeOf c t) (fine .table) (placed c h t time d z)) (fine .room) (fine .carried))
+
 pub left-by-step : (c : Call) (h : Head) (t : List Record) (time : ℕ) (d : List ℕ) → T (eqb (before h t time (length d) (carriedBy c) (placeOf c t)) 0)
     → Said c h t time d (settled (stepOf c (recordAt t (placeOf c t)) (h .own) time d) h time) (set t (placeOf c t) (stepOf c (recordAt t (placeOf c t)) (h .own) time d .«record»))
     (stepOut c (recordAt t (placeOf c t)) (h .own) time d)
-left-by-step c h t time d z =
-    let fine = fine-by c h t time d z in
-    by-refusal c h t time d (eqb (refusalOf c (recordAt t (placeOf c t)) (h .own) d) 0) refl
-    (by-table c h t time d ∙ picked-yes _ _ _ (is-yes _ z) ∙ sym (own-refusal c h t time d (in-range-at h t (placeOf c t) (fine .table) (placed c h t time d z)) (fine .room) (fine .carried)))
+left-by-step c h t time d z = by-refusal c h t time d (eqb (refusalOf c (recordAt t (placeOf c t)) (h .own) d) 0) refl (answered-by c h t time d z)

@@ -4,3 +4,4 @@ pub mod Matching
 pub mod Refusals
 pub mod Calls
 pub mod Plain
+pub mod Facts
