@@ -1,11 +1,14 @@
 /*
  * Ujamniq: the Safe Link Layer of the STM bus (SUBSET-057 version 2.2.0), levels 4 and 2, for C firmware.
  *
+ * A node uses the five calls over its table: uj_open, uj_close, uj_send, uj_received, uj_tick (libnode.a). They write every telegram and check every
+ * telegram by themselves. The writers, the check and the check word also stand alone (libfirmware.a). The two archives can be linked together.
+ *
  * Every function here takes any numbers and any bytes, ends, and keeps no state between calls.
  *
- * Runs of bytes are passed as a pointer and a length. The pointer must be readable (for `out`: writable) for that length; a null pointer goes only with
- * length 0. `out` must not overlap any other run of the same call; runs that are only read may overlap each other. Nothing can check these two rules for
- * you, and nothing else is asked of the caller.
+ * Runs, of bytes or of records, are passed as a pointer and a length; the length of a table counts records. The pointer must be readable (for `out`
+ * and `table`: writable) for that length; a null pointer goes only with length 0. `out` and `table` must not overlap each other or any other run of
+ * the same call; runs that are only read may overlap each other. Nothing can check these two rules for you, and nothing else is asked of the caller.
  *
  * An end of a connection is named by five plain numbers, in this order:
  *   own          this node's bus address, 0..126
@@ -32,11 +35,15 @@ extern "C" {
 /* The longest telegram, check word included. Every output buffer needs this much room, however short the telegram. */
 #define UJ_LONGEST 244
 
-/* Answers. Several at once: the first that holds, in this order. */
+/* Answers. Several at once: the first that holds, in this order. Those marked "calls" are given by the calls over a table alone. */
 #define UJ_DONE 0u            /* done; the check: passes */
-#define UJ_OUT_OF_RANGE 1u    /* an address, SAP or level out of range */
+#define UJ_OUT_OF_RANGE 1u    /* an address, SAP or level out of range; calls: a table that is not accepted, see uj_record; own address over 126 */
 #define UJ_NO_ROOM 4u         /* output buffer shorter than UJ_LONGEST */
-#define UJ_BAD_TELEGRAM 6u    /* telegram to check of 0..5 or over 244 bytes */
+#define UJ_TIME_BACKWARDS 7u  /* calls: time smaller than the head's latest */
+#define UJ_BAD_TELEGRAM 6u    /* telegram to check, or received, of 0..5 or over 244 bytes */
+#define UJ_NO_RECORD 2u       /* calls: record number past the table, or no record matches the telegram */
+#define UJ_ENDED 8u           /* calls: the record is finally closed */
+#define UJ_WRONG_PHASE 3u     /* calls: open on a record not closed, send on one not open, close on a closed one */
 #define UJ_BAD_VALUE 5u       /* idle time, command, type, reason, or length of net data or text not allowed */
 #define UJ_FAILED 100u        /* the check: this number or a greater one means failed */
 
@@ -61,8 +68,8 @@ uj_written uj_write_authentication(uint32_t own, uint32_t partner, uint32_t part
 uj_written uj_write_acknowledgement(uint32_t own, uint32_t partner, uint32_t partner_sap, uint32_t local_sap, uint32_t level, uint32_t number,
                                     uint32_t received, uint8_t *out, size_t out_length);
 
-/* Disconnect (5.2.5). `type` (new set-up desired): 0 final, 1 a new connection may be established. `reason`: 00h..07h, 1Fh, or 20h..40h of the layer above. `text` of up to
- * 40 bytes. */
+/* Disconnect (5.2.5). `type` (new set-up desired): 0 final, 1 a new connection may be established. `reason`: 00h..07h, 1Fh, or 20h..40h of the layer
+ * above. `text` of up to 40 bytes. */
 uj_written uj_write_disconnect(uint32_t own, uint32_t partner, uint32_t partner_sap, uint32_t local_sap, uint32_t level, uint32_t number, uint32_t type,
                                uint32_t reason, const uint8_t *text, size_t text_length, uint8_t *out, size_t out_length);
 
@@ -74,9 +81,10 @@ uj_written uj_write_idle(uint32_t own, uint32_t partner, uint32_t partner_sap, u
 uj_written uj_write_data(uint32_t own, uint32_t partner, uint32_t partner_sap, uint32_t local_sap, uint32_t level, uint32_t number, uint32_t command,
                          const uint8_t *net, size_t net_length, uint8_t *out, size_t out_length);
 
-/* The check of a received telegram. `expected` is the sequence number expected next; a connect request or confirm is checked with its own random number
- * instead. While a confirm is awaited, pass 0. The version in a request or confirm is not part of the check; nor is the reason in a disconnect. Answers UJ_DONE when the telegram passes, UJ_OUT_OF_RANGE or UJ_BAD_TELEGRAM when refused, and UJ_FAILED or a
- * greater number when it fails. A telegram that fails must not be used. */
+/* The check of a received telegram. `expected` is the sequence number expected next; a connect request or confirm is checked with its own random
+ * number instead. While a confirm is awaited, pass 0. The version in a request or confirm is not part of the check; nor is the reason in a
+ * disconnect. Answers UJ_DONE when the telegram passes, UJ_OUT_OF_RANGE or UJ_BAD_TELEGRAM when refused, and UJ_FAILED or a greater number when it
+ * fails. A telegram that fails must not be used. */
 uint32_t uj_check(uint32_t own, uint32_t partner, uint32_t partner_sap, uint32_t local_sap, uint32_t level, uint32_t expected, const uint8_t *telegram,
                   size_t telegram_length);
 
@@ -95,6 +103,139 @@ uint64_t uj_word48(const uint8_t *first, size_t first_length, const uint8_t *sec
 
 /* Level 2 (CRC_SL2). */
 uint32_t uj_word32(const uint8_t *first, size_t first_length, const uint8_t *second, size_t second_length);
+
+/*
+ * The calls of a node.
+ *
+ * The node lends a table of 1 to 64 connection records and one output buffer to each call, and gives its head by value. No call keeps any of them.
+ *
+ * Time is 64-bit milliseconds of a clock of yours that never goes back and never wraps. A time equal to the latest is allowed.
+ *
+ * A call that answers anything but UJ_DONE changes nothing: not the table, not the buffer, and the head comes back as it was. A call that answers
+ * UJ_DONE changes at most one record. Store the head that comes back before the next call: it holds the latest time.
+ *
+ * A telegram written is yours to send: to the record's partner, with partner_sap as DSAP and local_sap as SSAP. After uj_received that is the sender
+ * of the telegram received, with the two SAPs exchanged. Send it before the next call uses the buffer.
+ *
+ * Look at the event of every call: uj_received and uj_tick close a connection by themselves, with a disconnect telegram where the partner is to know.
+ */
+
+/* Phases of a record. A record of zeros is in none of them. */
+#define UJ_CLOSED 1u                   /* may be opened, from either end */
+#define UJ_CONFIRM_AWAITED 2u          /* opener: the request has gone out */
+#define UJ_AUTHENTICATION_AWAITED 3u   /* responder: the confirm has gone out */
+#define UJ_ACKNOWLEDGEMENT_AWAITED 4u  /* opener: the authentication has gone out */
+#define UJ_OPEN 5u                     /* data may go both ways */
+#define UJ_FINALLY_CLOSED 6u           /* never opens again; the calls answer UJ_ENDED */
+
+/* The most records of a table. */
+#define UJ_MOST_RECORDS 64
+
+/* One connection. Make it with uj_fresh, since fields may be added later; afterwards only the calls change it. Read what you like.
+ *
+ * A table is accepted when it has 1 to 64 records, every field is in range, and no two records agree in partner, partner_sap and local_sap: two that
+ * differ in one SAP alone are good. In range are, besides the addresses, SAPs and levels named above: the six phases; idle times of 0 or a multiple
+ * of 100 in 100..65500; timers not later than the head's latest time; and on a closed record, finally or not, 0 in every field from `sending` on. */
+typedef struct uj_record {
+    uint32_t partner;     /* the partner's bus address, 0..126 */
+    uint32_t partner_sap; /* the partner's SAP, 0..62 */
+    uint32_t local_sap;   /* our SAP, 0..62 */
+    uint32_t level;       /* 4 or 2 */
+    uint32_t phase;       /* UJ_CLOSED .. UJ_FINALLY_CLOSED */
+    uint32_t sending;     /* the number of the next telegram sent */
+    uint32_t expected;    /* the number of the next telegram taken */
+    uint32_t declared;    /* the idle time that we declared, in milliseconds; 0: we send no idle telegrams */
+    uint32_t watched;     /* the idle time that the partner declared, which we watch; 0: no watch */
+    uint64_t sent_at;     /* when it last sent */
+    uint64_t taken_at;    /* when it last took a telegram */
+} uj_record;
+
+/* The node's own bus address, 0..126, and the latest time seen. Make it with uj_new_head, since fields may be added later. */
+typedef struct uj_head {
+    uint32_t own;
+    uint64_t latest;
+} uj_head;
+
+/* Which telegram a call wrote. */
+#define UJ_TELEGRAM_NONE 0u
+#define UJ_TELEGRAM_REQUEST 1u
+#define UJ_TELEGRAM_CONFIRM 2u
+#define UJ_TELEGRAM_AUTHENTICATION 3u
+#define UJ_TELEGRAM_ACKNOWLEDGEMENT 4u
+#define UJ_TELEGRAM_DISCONNECT 5u
+#define UJ_TELEGRAM_IDLE 6u
+#define UJ_TELEGRAM_DATA 7u
+
+/* The answer of a call. The telegram, if any, stands in the first `length` bytes of `out`, and the bytes behind it are as they were. Where none was
+ * written, `length` is 0 and `out` is as it was. */
+typedef struct uj_answer {
+    uint32_t number;   /* UJ_DONE, or why the call was refused */
+    uint32_t telegram; /* UJ_TELEGRAM_NONE .. UJ_TELEGRAM_DATA */
+    uint32_t length;
+} uj_answer;
+
+/* Events, for the layer above. */
+#define UJ_EVENT_NOTHING 0u
+#define UJ_EVENT_OPENED 1u /* the connection is open */
+#define UJ_EVENT_DATA 2u   /* data of the partner: command, start, count */
+#define UJ_EVENT_CLOSED 3u /* the connection is closed: reason, last; also after a uj_close of yours */
+
+/* What happened. Parts that the event does not name are 0. The net data of UJ_EVENT_DATA are the `count` bytes from `telegram + start` on, in the
+ * telegram that you gave to uj_received: nothing is copied. */
+typedef struct uj_happened {
+    uint32_t event;
+    uint32_t command; /* the command's low six bits, 09h or 20h..3Fh */
+    uint32_t start;
+    uint32_t count;
+    uint32_t reason;  /* the reason of 5.2.5.9: ours, or the one that the partner's disconnect gives */
+    uint32_t last;    /* 1: finally closed; 0: the record may be opened again */
+} uj_happened;
+
+/* What a call gives back beside table and buffer. */
+typedef struct uj_outcome {
+    uj_head head; /* to store */
+    uj_answer answer;
+    uj_happened happened;
+} uj_outcome;
+
+/* The head of a node that has seen no time yet. */
+uj_head uj_new_head(uint32_t own);
+
+/* A closed record that has never been used. Both constructors take any numbers; the calls refuse what is out of range. */
+uj_record uj_fresh(uint32_t partner, uint32_t partner_sap, uint32_t local_sap, uint32_t level);
+
+/* In the calls: `table` of `count` records; `place` is a record's number in it, from 0 on. `random` is a random number, a new one for each call.
+ * `named` is 0 where you name no idle time: then 500 is declared, and `idle_time` is not looked at. Any other `named` declares `idle_time`; naming 0
+ * is naming one, and no idle telegrams are sent then. `out` needs room for UJ_LONGEST bytes in every call, also where no telegram is written. */
+
+/* Opens a closed connection: a request goes out. `net` of up to 226 bytes at level 4, 228 at level 2 goes with it. UJ_EVENT_OPENED comes with a later
+ * uj_received. */
+uj_outcome uj_open(uj_record *table, size_t count, uj_head head, uint64_t time, size_t place, uint32_t random, uint32_t named, uint32_t idle_time,
+                   const uint8_t *net, size_t net_length, uint8_t *out, size_t out_length);
+
+/* Closes a connection in any phase but closed: a disconnect goes out. `new_setup` (5.2.5, the type): 0 final, the record never opens again; 1 a new
+ * connection may be established. `reason`: 00h..07h, 1Fh, or 20h..40h of the layer above. `text` of up to 40 bytes. */
+uj_outcome uj_close(uj_record *table, size_t count, uj_head head, uint64_t time, size_t place, uint32_t new_setup, uint32_t reason,
+                    const uint8_t *text, size_t text_length, uint8_t *out, size_t out_length);
+
+/* Sends data on an open connection. `command` is the command's low six bits, 09h or 20h..3Fh. `net` of up to 236 bytes at level 4, 238 at level 2. */
+uj_outcome uj_send(uj_record *table, size_t count, uj_head head, uint64_t time, size_t place, uint32_t command, const uint8_t *net, size_t net_length,
+                   uint8_t *out, size_t out_length);
+
+/* Takes a telegram, for the record that matches it, wherever that stands in the table: `sender`, the sender's address, is its partner;
+ * `destination_sap` its local_sap; `source_sap` its partner_sap. All three are the bus driver's, as the frame had them. `random`, `named` with
+ * `idle_time`, and `net` (limits of uj_open) are for a confirm, should the telegram be a good request; they are measured against their limits in any
+ * case. A telegram that fails the check, comes too late or in a phase that is not for it brings no data: the record is closed, or the telegram
+ * dropped, as 5.5 says. */
+uj_outcome uj_received(uj_record *table, size_t count, uj_head head, uint64_t time, uint32_t sender, uint32_t destination_sap, uint32_t source_sap,
+                       uint32_t random, uint32_t named, uint32_t idle_time, const uint8_t *telegram, size_t telegram_length, const uint8_t *net,
+                       size_t net_length, uint8_t *out, size_t out_length);
+
+/* Lets time pass for one record. Call it for every record regularly, well within half of the idle time that you declare: nothing else notices that a
+ * partner is silent. It closes a record whose wait for a confirm, an authentication or an acknowledgement has lasted more than 5,000 ms, or whose
+ * partner has been silent for longer than it declared; else, on an open record, it writes an idle telegram once half of the time that we declared has
+ * passed since we last sent. */
+uj_outcome uj_tick(uj_record *table, size_t count, uj_head head, uint64_t time, size_t place, uint8_t *out, size_t out_length);
 
 #ifdef __cplusplus
 }

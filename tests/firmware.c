@@ -4,6 +4,7 @@
  * In this order: the calls with guards around their runs, the check word, whole telegrams, what the writers refuse, the check, the net data.
  */
 #define _DEFAULT_SOURCE
+#define PROGRAM "firmware"
 #include "guarded.h"
 #include "papers.h"
 #include "ujamniq.h"

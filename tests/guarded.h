@@ -3,6 +3,8 @@
  *
  * Every call of the library is made once for each place of PLACES. A byte written outside a run shows in the guard bytes around it; a byte read outside a run
  * ends the program, since at two of the places the run borders on a page that nobody may touch.
+ *
+ * The test that includes it defines PROGRAM, the name that its reports begin with.
  */
 #ifndef GUARDED_H
 #define GUARDED_H
@@ -41,7 +43,7 @@ static void count_check(int holds, int line, const char *text)
     if (holds)
         return;
     if (failures++ < SHOWN)
-        printf("firmware: line %d, %s (%lu, %lu): %s\n", line, case_name, case_first, case_second, text);
+        printf(PROGRAM ": line %d, %s (%lu, %lu): %s\n", line, case_name, case_first, case_second, text);
 }
 
 #define CHECK(holds) count_check((holds) != 0, __LINE__, #holds)
@@ -65,7 +67,7 @@ static void open_room(room *r)
     uint8_t *pages = mmap(NULL, BORDER + ROOM + BORDER, PROT_NONE, MAP_PRIVATE | MAP_ANONYMOUS, -1, 0);
 
     if (pages == MAP_FAILED || mprotect(pages + BORDER, ROOM, PROT_READ | PROT_WRITE) != 0) {
-        puts("firmware: no memory for the runs");
+        puts(PROGRAM ": no memory for the runs");
         exit(1);
     }
     r->start = pages + BORDER;
@@ -74,7 +76,7 @@ static void open_room(room *r)
 /* Somebody touched a border. The library calls nothing of stdio, so printing is safe here. */
 static void outside(int number)
 {
-    printf("firmware: signal %d, %s (%lu, %lu): a byte outside a run was touched\n", number, case_name, case_first, case_second);
+    printf(PROGRAM ": signal %d, %s (%lu, %lu): a byte outside a run was touched\n", number, case_name, case_first, case_second);
     fflush(stdout);
     _Exit(1);
 }

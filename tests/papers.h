@@ -1,5 +1,7 @@
 /*
  * What the papers ask of the C interface, said a second time: section 10 is `divide`, 5.1.3 `seal`, 5.2 `compose` and `kind_of`.
+ *
+ * The functions are inline, since no test needs them all: a function that is not, and that nobody uses, is a warning.
  */
 #ifndef PAPERS_H
 #define PAPERS_H
@@ -43,57 +45,57 @@ typedef struct order {
 } order;
 
 /* The end at the other side. */
-static end mirrored(end e)
+static inline end mirrored(end e)
 {
     end m = {{e.n[PARTNER], e.n[OWN], e.n[LOCAL_SAP], e.n[PARTNER_SAP], e.n[LEVEL]}};
     return m;
 }
 
 /* The end with one of its numbers changed. */
-static end with(end e, int place, uint32_t number)
+static inline end with(end e, int place, uint32_t number)
 {
     e.n[place] = number;
     return e;
 }
 
 /* Bytes of the check word (section 10). */
-static size_t word_bytes(uint32_t level)
+static inline size_t word_bytes(uint32_t level)
 {
     return level == 4 ? 6 : 4;
 }
 
 /* The most net data of the kind at the level. */
-static size_t most_net(int kind, uint32_t level)
+static inline size_t most_net(int kind, uint32_t level)
 {
     return level == 4 ? kinds[kind].most4 : kinds[kind].most2;
 }
 
 /* Whether the kind has net data of a length to choose. */
-static int has_net(int kind)
+static inline int has_net(int kind)
 {
     return kinds[kind].most4 != 0;
 }
 
 /* 5.2.1.3, bytes 7..8. */
-static int idle_time_allowed(uint32_t time)
+static inline int idle_time_allowed(uint32_t time)
 {
     return time == 0 || (time >= 100 && time <= 65500 && time % 100 == 0);
 }
 
 /* 5.2.7.2, byte 2, without the bits of the level. */
-static int is_data(uint32_t command)
+static inline int is_data(uint32_t command)
 {
     return command == 0x09 || (command >= 0x20 && command <= 0x3F);
 }
 
 /* The reasons that 5.2.5.9 lists, and those that 5.2.5.9.1 gives to the layer above. */
-static int is_listed(uint32_t reason)
+static inline int is_listed(uint32_t reason)
 {
     return reason <= 0x07 || (reason >= 0x1F && reason <= 0x40);
 }
 
 /* Section 10: the remainder by the generator, given as 10.2 prints it, of the bytes with `width` zero bits behind them. */
-static uint64_t divide(int width, const uint8_t *bytes, size_t length)
+static inline uint64_t divide(int width, const uint8_t *bytes, size_t length)
 {
     const uint64_t generator = width == 48 ? 0xD28DB3FA4AAD : 0x4A503DF1;
     const uint64_t highest = (uint64_t)1 << (width - 1);
@@ -108,7 +110,7 @@ static uint64_t divide(int width, const uint8_t *bytes, size_t length)
 }
 
 /* 5.1.1.6: puts a number of some bytes, lowest byte first, and gives the place behind it. */
-static size_t put(uint8_t *telegram, size_t at, uint32_t number, size_t bytes)
+static inline size_t put(uint8_t *telegram, size_t at, uint32_t number, size_t bytes)
 {
     for (size_t i = 0; i < bytes; i++)
         telegram[at + i] = (uint8_t)(number >> 8 * i);
@@ -116,7 +118,7 @@ static size_t put(uint8_t *telegram, size_t at, uint32_t number, size_t bytes)
 }
 
 /* 5.1.3: puts the check word of the sender `e` behind the first `length` bytes of the telegram, and gives the length of the whole. */
-static size_t seal(end e, uint32_t number, uint8_t *telegram, size_t length)
+static inline size_t seal(end e, uint32_t number, uint8_t *telegram, size_t length)
 {
     const size_t word_length = word_bytes(e.n[LEVEL]), whole = length + word_length;
     const uint32_t implicit[5] = {(uint32_t)whole, e.n[PARTNER], e.n[OWN], e.n[PARTNER_SAP], e.n[LOCAL_SAP]};
@@ -133,7 +135,7 @@ static size_t seal(end e, uint32_t number, uint8_t *telegram, size_t length)
 }
 
 /* 5.2: the telegram that the end has to write, and its length. */
-static size_t compose(end e, order o, uint8_t *telegram)
+static inline size_t compose(end e, order o, uint8_t *telegram)
 {
     const uint32_t level = e.n[LEVEL], command = o.kind == DATA ? o.command : kinds[o.kind].command;
     size_t at = put(telegram, 0, o.number & 0xFF, 1);
@@ -153,7 +155,7 @@ static size_t compose(end e, order o, uint8_t *telegram)
 }
 
 /* The kind of telegram that a command and a length make, or -1 (5.1.1.5, 5.2). */
-static int kind_of(uint8_t command, size_t length)
+static inline int kind_of(uint8_t command, size_t length)
 {
     const int top = command >> 6, low = command & 0x3F;
     const uint32_t level = top == 2 ? 4 : 2;

@@ -45,7 +45,7 @@ pub(crate) fn settle(step: Step, head: Head, time: u64) -> Outcome
 }
 
 // Where the net data of an event lie in the telegram: start and count, 0 and 0 where it is no data.
-pub fn data_part(event: Event) -> Part
+fn data_part(event: Event) -> Part
     ensures { λ p. ⌜ p ≡ partOf event ⌝ }
 {
     let Event::Data {
