@@ -1,104 +1,20 @@
 //! Random conversations: two ends of a connection over a bus that loses, doubles, delays, reorders, damages and returns telegrams, with opens, closes, sends and
 //! ticks on both sides. Each step is put to both programs, with a buffer of random bytes before it.
 
-use crate::check::field;
-use crate::link_call::{Call, Naming};
+use crate::link_call::Call;
 use crate::link_case::{Case, Demand, Outcome};
-use crate::link_step::{Record, Step, Stepped, ACKNOWLEDGEMENT_AWAITED, AUTHENTICATION_AWAITED, CLOSED, CONFIRM_AWAITED, FINALLY_CLOSED, OPEN};
-use crate::random::Random;
+use crate::link_step::{Record, Step, CLOSED, FINALLY_CLOSED, OPEN};
+use crate::random::{once_in, one_of, Random};
+use crate::random_calls::{around_limit, close, damaged, of_other_version, open, received, send, spoil_record, spoilt_call, RECORD_SPOILS};
+use crate::shares::Shares;
 use crate::tally::Tally;
-use crate::telegram::{sealed, End, Level, LONGEST};
+use crate::telegram::{End, LONGEST};
 use crate::words::hex;
-use std::collections::{BTreeMap, VecDeque};
+use std::collections::VecDeque;
 
 const SEED: u64 = 0x636F_6E76_6572_7365;
 const STEPS: usize = 200_000;
 const LONGEST_CONVERSATION: usize = 400;
-
-/// Whether something happens that happens once in so many times.
-fn once_in(random: &mut Random, times: usize) -> bool {
-    random.upto(times - 1) == 0
-}
-
-fn one_of<T: Copy>(random: &mut Random, values: &[T]) -> T {
-    values[random.upto(values.len() - 1)]
-}
-
-/// How often each thing happened, so that a reader sees what the conversations reach.
-#[derive(Default)]
-struct Shares(BTreeMap<(u32, String), usize>);
-
-impl Shares {
-    /// Counts one more of what is named. It is told in the order of the numbers.
-    fn count(&mut self, order: u32, what: impl Into<String>) {
-        *self.0.entry((order, what.into())).or_default() += 1;
-    }
-
-    fn count_step(&mut self, before: &Record, stepped: &Stepped) {
-        let order = before.phase.wrapping_sub(1).min(6);
-        self.count(order, format!("steps of a record {}", phase_name(before.phase)));
-        self.count(10, format!("answer {}", stepped.answer));
-        if stepped.telegram != 0 {
-            self.count(20 + stepped.telegram, format!("{} written", telegram_name(stepped.telegram)));
-        }
-        if stepped.answer == 0 {
-            self.count(30 + stepped.event + stepped.last, event_name(stepped));
-            self.count_wraps(before, &stepped.record);
-        }
-    }
-
-    fn count_wraps(&mut self, before: &Record, after: &Record) {
-        let stayed = before.phase == OPEN && after.phase == OPEN;
-        if stayed && (before.sending, after.sending) == (u32::MAX, 0) {
-            self.count(40, "numbers sent that wrap to 0");
-        }
-        if stayed && (before.expected, after.expected) == (u32::MAX, 0) {
-            self.count(40, "numbers expected that wrap to 0");
-        }
-    }
-
-    fn tell(&self) {
-        for ((_, what), times) in &self.0 {
-            println!("{times:>20}  {what}");
-        }
-    }
-}
-
-fn phase_name(phase: u32) -> &'static str {
-    match phase {
-        CLOSED => "in phase 1, closed",
-        CONFIRM_AWAITED => "in phase 2, confirm awaited",
-        AUTHENTICATION_AWAITED => "in phase 3, authentication awaited",
-        ACKNOWLEDGEMENT_AWAITED => "in phase 4, acknowledgement awaited",
-        OPEN => "in phase 5, open",
-        FINALLY_CLOSED => "in phase 6, finally closed",
-        _ => "in no phase",
-    }
-}
-
-fn telegram_name(number: u32) -> &'static str {
-    match number {
-        1 => "request",
-        2 => "confirm",
-        3 => "authentication",
-        4 => "acknowledgement",
-        5 => "disconnect",
-        6 => "idle",
-        _ => "data",
-    }
-}
-
-/// The reasons of the layer above are told as one.
-fn event_name(stepped: &Stepped) -> String {
-    let finally = if stepped.last == 1 { ", finally" } else { "" };
-    match (stepped.event, stepped.reason) {
-        (0, _) => "event nothing".into(),
-        (1, _) => "event opened".into(),
-        (2, _) => "event data".into(),
-        (_, 0x20..=0x40) => format!("event closed, reason 20h to 40h{finally}"),
-        (_, reason) => format!("event closed, reason {reason:02X}h{finally}"),
-    }
-}
 
 /// One end, with its clock's distance from the conversation's time and the data that it sent and its partner hasn't handed over yet.
 struct Node {
@@ -164,7 +80,7 @@ impl Conversation {
     fn pass_time(&mut self, random: &mut Random) {
         let who = random.upto(1);
         let record = &self.nodes[who].record;
-        let in_vain = self.flying.is_empty() && waits(record) && once_in(random, 6);
+        let in_vain = self.flying.is_empty() && record.waits() && once_in(random, 6);
         self.now = match random.upto(999) {
             _ if in_vain => self.limit(who, random).max(self.now),
             0..=899 => self.now.saturating_add(random.next() % 12),
@@ -174,16 +90,10 @@ impl Conversation {
         };
     }
 
-    /// One before the limit of a wait or watch, or of the time at which idle is due; at it; or one past.
+    /// When a node's clock is around a limit of its record.
     fn limit(&self, who: usize, random: &mut Random) -> u64 {
         let Node { record, ahead, .. } = &self.nodes[who];
-        let (timer, limit) = match (waits(record), once_in(random, 3)) {
-            (true, _) => (record.sent_at, 5000),
-            (false, true) => (record.sent_at, u64::from(record.declared / 2)),
-            (false, false) => (record.taken_at, u64::from(record.watched)),
-        };
-        let near = limit.saturating_sub(1) + random.next() % 3;
-        timer.saturating_add(near).saturating_sub(*ahead)
+        around_limit(record, random).saturating_sub(*ahead)
     }
 
     /// A step of one of the nodes, compared. Once in a while it has something wrong; what comes of it is left then.
@@ -299,118 +209,16 @@ impl Conversation {
             ),
             5 => (
                 "is of another version",
-                self.flying.pop_front().and_then(|flying| self.other_version(flying, random)),
+                self.flying.pop_front().and_then(|(to, telegram)| {
+                    let Node { record, own, .. } = &self.nodes[to];
+                    of_other_version(record, *own, telegram, random).map(|telegram| (to, telegram))
+                }),
             ),
             _ => (
                 "is damaged",
                 self.flying.pop_front().map(|(to, telegram)| (to, damaged(telegram, random))),
             ),
         }
-    }
-
-    /// A request or confirm as a node of another version would have sent it. Another telegram is lost.
-    fn other_version(&self, (to, mut telegram): Flying, random: &mut Random) -> Option<Flying> {
-        let Node { record, own, .. } = &self.nodes[to];
-        let level = Level::named(record.level)?;
-        if ![0x00, 0x02].contains(&(telegram[1] & 0x3F)) {
-            return None;
-        }
-        let version = one_of(random, &[[2, 0, 0], [3, 0, 7], [3, 1, 0], [3, 5, 0], [4, 0, 0]]);
-        telegram[8..11].copy_from_slice(&version);
-        let number = field(&telegram, 3, 6);
-        let body = &telegram[..telegram.len() - level.generator().bytes()];
-        Some((to, sealed(level, record.end(*own).receiving(), number, body)))
-    }
-}
-
-/// Whether the record waits for the next telegram of the set-up.
-fn waits(record: &Record) -> bool {
-    [CONFIRM_AWAITED, AUTHENTICATION_AWAITED, ACKNOWLEDGEMENT_AWAITED].contains(&record.phase)
-}
-
-fn damaged(mut telegram: Vec<u8>, random: &mut Random) -> Vec<u8> {
-    match random.upto(7) {
-        0 => telegram.truncate(random.upto(telegram.len())),
-        1 => telegram.extend(random.next().to_le_bytes()),
-        2 => telegram[1] ^= one_of(random, &[0x80, 0x40, 0xC0, 0x01, 0x04, 0x20]),
-        _ => {
-            for _ in 0..=random.upto(3) {
-                let place = random.upto(telegram.len() - 1);
-                telegram[place] ^= 1 << random.upto(7);
-            }
-        }
-    }
-    telegram
-}
-
-/// A random number to be lent, often just before the numbers wrap.
-fn lent(random: &mut Random) -> u32 {
-    let any = random.next() as u32;
-    let last = u32::MAX - random.upto(20) as u32;
-    one_of(random, &[any, any, any, any | 0xFF, last, last, 0])
-}
-
-fn idle_time(random: &mut Random) -> Naming {
-    let any = 100 * random.upto(655) as u32;
-    Naming {
-        named: one_of(random, &[0, 1, 1, 1, 2, 256]),
-        idle_time: one_of(random, &[0, 100, 200, 500, 1000, 3000, 65500, any]),
-    }
-}
-
-/// Net data, mostly short, sometimes as long as may be.
-fn net(most: usize, random: &mut Random) -> Vec<u8> {
-    let length = match random.upto(19) {
-        0 => most,
-        1 => random.upto(most),
-        _ => random.upto(12),
-    };
-    random.bytes(length)
-}
-
-/// The longest net data of request and confirm, and of data.
-fn most_net(level: u32) -> (usize, usize) {
-    if level == 4 {
-        (226, 236)
-    } else {
-        (228, 238)
-    }
-}
-
-fn open(time: u64, level: u32, random: &mut Random) -> Call {
-    Call::Open {
-        time,
-        random: lent(random),
-        naming: idle_time(random),
-        net: net(most_net(level).0, random),
-    }
-}
-
-fn send(time: u64, level: u32, random: &mut Random) -> Call {
-    let upper = 0x20 + random.upto(0x1F) as u32;
-    Call::Send {
-        time,
-        command: one_of(random, &[0x09, upper]),
-        net: net(most_net(level).1, random),
-    }
-}
-
-fn received(time: u64, level: u32, telegram: Vec<u8>, random: &mut Random) -> Call {
-    Call::Received {
-        time,
-        random: lent(random),
-        naming: idle_time(random),
-        telegram,
-        net: net(most_net(level).0, random),
-    }
-}
-
-fn close(random: &mut Random) -> Call {
-    let upper = 0x20 + random.upto(0x20) as u32;
-    Call::Close {
-        new_setup: one_of(random, &[0, 1, 1, 1]),
-        reason: one_of(random, &[0x00, 0x07, 0x1F, upper]),
-        text: net(40, random),
     }
 }
 
@@ -420,45 +228,11 @@ fn spoilt(mut case: Case, random: &mut Random) -> Case {
     let beyond = random.next() as u32 % 300;
     match random.upto(14) {
         0 => *own = 127 + beyond,
-        1 => record.partner = 127 + beyond,
-        2 => record.partner_sap = 63 + beyond,
-        3 => record.local_sap = 63 + beyond,
-        4 => record.level = one_of(random, &[0, 1, 3, 5, 260]),
-        5 => record.phase = one_of(random, &[7, 257, u32::MAX, 0]),
-        6 => record.phase = 1 + random.upto(5) as u32,
-        7 => record.declared = one_of(random, &[50, 150, 65535, 65600, 100]),
-        8 => record.watched = one_of(random, &[50, 150, 65535, 65600, 100]),
-        9 => record.sending = record.sending.wrapping_add(1),
-        10 => record.taken_at = record.taken_at.wrapping_add(1),
+        way @ 1..=RECORD_SPOILS => spoil_record(way, beyond, record, random),
         11 => case.before.truncate(random.upto(LONGEST - 1)),
         _ => *call = spoilt_call(call.clone(), random),
     }
     case
-}
-
-fn spoilt_call(call: Call, random: &mut Random) -> Call {
-    let length = 41 + random.upto(220);
-    let long = random.bytes(length);
-    let naming = Naming {
-        named: 1,
-        idle_time: one_of(random, &[50, 150, 65535, 65600]),
-    };
-    match random.upto(4) {
-        0 => call.with_net(long.clone()).with_text(long),
-        1 => call
-            .with_naming(naming)
-            .with_command(one_of(random, &[0x00, 0x06, 0x0D, 0x1F, 0x89, 0xA0, 0x120])),
-        2 => call.with_telegram(long[..random.upto(5)].to_vec()),
-        3 => call.with_telegram([long, vec![0; 204]].concat()),
-        _ => match call {
-            Call::Close { text, .. } => Call::Close {
-                new_setup: one_of(random, &[0, 1, 2, 256, 257]),
-                reason: one_of(random, &[0x08, 0x1E, 0x41, 0xFF, 0x100]),
-                text,
-            },
-            other => other.with_time(random.next()),
-        },
-    }
 }
 
 /// Conversations until there were enough steps.

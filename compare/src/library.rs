@@ -58,8 +58,8 @@ pub fn read(run: &[u8]) -> (*const u8, usize) {
     (pointer, run.len())
 }
 
-/// An output buffer, likewise.
-pub fn write(out: &mut [u8]) -> (*mut u8, usize) {
+/// An output buffer or a table, likewise.
+pub fn write<T>(out: &mut [T]) -> (*mut T, usize) {
     let pointer = if out.is_empty() { std::ptr::null_mut() } else { out.as_mut_ptr() };
     (pointer, out.len())
 }

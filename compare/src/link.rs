@@ -15,8 +15,8 @@ const UNNAMED_IDLE_TIME: u32 = 500;
 const ACCEPTED_VERSION: [u8; 2] = [3, 0];
 
 /// The numbers of the refusals that a connection adds to those of a telegram.
-const ENDED: u32 = 8;
-const WRONG_PHASE: u32 = 3;
+pub const ENDED: u32 = 8;
+pub const WRONG_PHASE: u32 = 3;
 
 /// 5.2.5.9, byte 3.
 const FINAL: u32 = 0;
@@ -221,7 +221,7 @@ fn introduced(record: Record, connect: &[u8]) -> Record {
 }
 
 /// A record whose fields are in range, on its node.
-struct Link {
+pub struct Link {
     record: Record,
     end: End,
     level: Level,
@@ -230,9 +230,8 @@ struct Link {
 
 impl Link {
     /// Nothing where the record or the own address is out of range.
-    fn in_range(step: &Step) -> Option<Link> {
-        let record = step.record;
-        let end = step.end();
+    pub fn in_range(record: Record, own: u32) -> Option<Link> {
+        let end = record.end(own);
         let level = end.in_range()?;
         let state = State::of_phase(record.phase)?;
         let is_closed = matches!(state, State::Idle | State::Defect);
@@ -241,8 +240,13 @@ impl Link {
         good.then(|| Link { record, end, level, state })
     }
 
+    /// Whether the connection is finally closed: answer 8.
+    pub fn is_ended(&self) -> bool {
+        self.state == State::Defect
+    }
+
     /// Whether the state has something for the call to do: answer 3.
-    fn takes(&self, call: &Call) -> bool {
+    pub fn takes(&self, call: &Call) -> bool {
         match call {
             Call::Open { .. } => self.state == State::Idle,
             Call::Send { .. } => self.state == State::Data,
@@ -252,7 +256,7 @@ impl Link {
     }
 
     /// Whether answer 5 lets the call's values through: those of the telegram that it brings, or may bring.
-    fn allows(&self, call: &Call) -> bool {
+    pub fn allows(&self, call: &Call) -> bool {
         let telegram = match call.clone() {
             Call::Open { random, naming, net, .. } => Telegram::request(random, naming.declared(), net),
             Call::Received { random, naming, net, .. } => Telegram::confirm(random, naming.declared(), net),
@@ -415,6 +419,17 @@ impl Link {
             }
         }
     }
+
+    /// The same with the telegram written. It goes into the front of the buffer, and the rest stays as it was.
+    pub fn act(&self, call: &Call, out: &mut [u8]) -> Stepped {
+        let (after, telegram, event) = self.step(call);
+        let written = telegram.map(|telegram| {
+            let bytes = written(&self.end, &telegram, out.len()).expect("a link writes good telegrams only");
+            out[..bytes.len()].copy_from_slice(&bytes);
+            (telegram.kind(), bytes.len())
+        });
+        Stepped::done(after, written, event)
+    }
 }
 
 /// The net data are handed over as a part of the lent telegram.
@@ -430,11 +445,11 @@ fn data_event(telegram: &[u8]) -> Event {
 /// The link that a call is about, unless the call is refused: then the first refusal that holds, in this order.
 fn accepted(step: &Step, room: usize) -> Result<Link, u32> {
     let call = &step.call;
-    let link = Link::in_range(step).ok_or(OUT_OF_RANGE)?;
+    let link = Link::in_range(step.record, step.own).ok_or(OUT_OF_RANGE)?;
     let refusals = [
         (NO_ROOM, room < LONGEST),
         (BAD_TELEGRAM, is_bad_telegram(call)),
-        (ENDED, link.state == State::Defect),
+        (ENDED, link.is_ended()),
         (WRONG_PHASE, !link.takes(call)),
         (BAD_VALUE, !link.allows(call)),
     ];
@@ -444,24 +459,18 @@ fn accepted(step: &Step, room: usize) -> Result<Link, u32> {
     }
 }
 
-fn is_bad_telegram(call: &Call) -> bool {
+/// Whether the call brings a telegram that is too short or too long: answer 6.
+pub fn is_bad_telegram(call: &Call) -> bool {
     match call {
         Call::Received { telegram, .. } => !(SHORTEST..=LONGEST).contains(&telegram.len()),
         _ => false,
     }
 }
 
-/// A step. The telegram goes into the front of the buffer, and the rest stays as it was; refused, the whole buffer does.
+/// A step. Refused, it leaves the whole buffer as it was.
 pub fn step(step: &Step, out: &mut [u8]) -> Stepped {
-    let link = match accepted(step, out.len()) {
-        Ok(link) => link,
-        Err(answer) => return Stepped::refused(step.record, answer),
-    };
-    let (after, telegram, event) = link.step(&step.call);
-    let written = telegram.map(|telegram| {
-        let bytes = written(&link.end, &telegram, out.len()).expect("a link writes good telegrams only");
-        out[..bytes.len()].copy_from_slice(&bytes);
-        (telegram.kind(), bytes.len())
-    });
-    Stepped::done(after, written, event)
+    match accepted(step, out.len()) {
+        Ok(link) => link.act(&step.call, out),
+        Err(answer) => Stepped::refused(step.record, answer),
+    }
 }

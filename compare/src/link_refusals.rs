@@ -8,7 +8,7 @@ use crate::samples::{limits, pattern, SENDERS};
 use crate::telegram::{End, Kind, LONGEST};
 
 /// The answer of a good call in a phase.
-fn answer(call: &Call, phase: u32) -> u32 {
+pub fn answer(call: &Call, phase: u32) -> u32 {
     match (call, phase) {
         (_, FINALLY_CLOSED) => 8,
         (Call::Open { .. }, CLOSED) | (Call::Send { .. }, OPEN) => 0,
@@ -81,27 +81,29 @@ fn not_cleared(closed: Record) -> Vec<Record> {
     records
 }
 
-/// Records and own addresses with every field at its limits and out of range, for every call in every phase. The telegram received is made for just that record.
-pub fn fields() -> Vec<Case> {
+/// The record and the own address with every field in turn at its limits and out of range, and whether that is out of range.
+pub fn variations(record: Record, own: u32) -> Vec<(Record, u32, bool)> {
     const BAD_PHASES: [u32; 9] = [0, 7, 8, 255, 256 + 1, 256 + 5, 0x1_0001, 0x8000_0000, u32::MAX];
+    let ends = limits(record.end(own)).into_iter();
+    let mut variations: Vec<(Record, u32, bool)> = ends.map(|(end, answer)| (record.between(&end), end.own, answer == 1)).collect();
+    variations.extend(BAD_PHASES.map(|phase| (Record { phase, ..record }, own, true)));
+    if [CLOSED, FINALLY_CLOSED].contains(&record.phase) {
+        variations.extend(not_cleared(record).into_iter().map(|record| (record, own, true)));
+    } else {
+        variations.extend(idle_times(record).into_iter().map(|(record, answer)| (record, own, answer == 1)));
+    }
+    variations
+}
+
+/// Every call in every phase with each of these. The telegram received is made for just that record.
+pub fn fields() -> Vec<Case> {
     let mut cases = Vec::new();
     for (record, own) in records() {
-        let mut push = |record: Record, own: u32, out_of_range: bool| {
+        for (record, own, out_of_range) in variations(record, own) {
             for call in calls(&record, own, NOW) {
                 let demand = demand(if out_of_range { 1 } else { answer(&call, record.phase) });
                 cases.push(Case::new(record, own, call, demand));
             }
-        };
-        for (end, answer) in limits(record.end(own)) {
-            push(record.between(&end), end.own, answer == 1);
-        }
-        for phase in BAD_PHASES {
-            push(Record { phase, ..record }, own, true);
-        }
-        if [CLOSED, FINALLY_CLOSED].contains(&record.phase) {
-            not_cleared(record).into_iter().for_each(|record| push(record, own, true));
-        } else {
-            idle_times(record).into_iter().for_each(|(record, answer)| push(record, own, answer == 1));
         }
     }
     cases
@@ -111,7 +113,7 @@ pub fn fields() -> Vec<Case> {
 const REFUSALS: [u32; 6] = [1, 4, 6, 8, 3, 5];
 
 /// The same record and address with one of their numbers out of range.
-fn out_of_range((record, own): (Record, u32)) -> Vec<(Record, u32)> {
+pub fn out_of_range((record, own): (Record, u32)) -> Vec<(Record, u32)> {
     vec![
         (record, 127),
         (Record { partner: 256, ..record }, own),
@@ -131,7 +133,7 @@ fn out_of_range((record, own): (Record, u32)) -> Vec<(Record, u32)> {
 }
 
 /// The call with a telegram that answer 6 turns away; nothing for a call without a telegram.
-fn bad_telegrams(call: &Call) -> Vec<Call> {
+pub fn bad_telegrams(call: &Call) -> Vec<Call> {
     let lengths: &[usize] = match call {
         Call::Received { .. } => &[0, 5, 245, 256 + 8],
         _ => &[],
@@ -140,7 +142,7 @@ fn bad_telegrams(call: &Call) -> Vec<Call> {
 }
 
 /// The call with a value that answer 5 turns away, in several ways; nothing for a tick.
-fn bad_values(call: &Call) -> Vec<Call> {
+pub fn bad_values(call: &Call) -> Vec<Call> {
     let call = call.clone();
     match call {
         Call::Open { .. } | Call::Received { .. } => vec![call.clone().with_naming(naming(50)), call.with_net(pattern(229))],

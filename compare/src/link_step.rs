@@ -57,6 +57,11 @@ impl Record {
         }
     }
 
+    /// Whether the record waits for the next telegram of the set-up.
+    pub fn waits(&self) -> bool {
+        [CONFIRM_AWAITED, AUTHENTICATION_AWAITED, ACKNOWLEDGEMENT_AWAITED].contains(&self.phase)
+    }
+
     /// The end that the record names on the node with this address.
     pub fn end(&self, own: u32) -> End {
         End {

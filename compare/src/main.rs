@@ -1,13 +1,17 @@
 //! Compares the proved library with a second program that is written from the papers. Prints what was compared and how much of it, and fails where
 //! anything differs. With the word `vectors` it runs the published vectors alone.
 
+mod bus;
+mod bus_run;
 mod case;
 mod check;
 mod check_cases;
 mod conversations;
 mod draft;
+mod exchanged_cards;
 mod library;
 mod library_link;
+mod library_node;
 mod link;
 mod link_call;
 mod link_case;
@@ -18,14 +22,27 @@ mod link_samples;
 mod link_step;
 mod link_times;
 mod links;
+mod node;
+mod node_call;
+mod node_case;
+mod node_cases;
+mod node_refusals;
+mod node_runs;
+mod node_samples;
+mod node_spoils;
+mod nodes;
 mod program;
 mod random;
+mod random_calls;
 mod random_cases;
 mod samples;
+mod shares;
+mod stations;
 mod tally;
 mod telegram;
 mod telegrams;
 mod vectors;
+mod wire;
 mod word;
 mod words;
 mod worked;
@@ -33,6 +50,8 @@ mod write_cases;
 mod wrong;
 mod wrong_calls;
 mod wrong_link;
+mod wrong_node;
+mod wrong_nodes;
 mod wrong_steps;
 
 use std::process::ExitCode;
@@ -62,6 +81,7 @@ fn main() -> ExitCode {
         telegrams::systematic(&mut tally);
         telegrams::random(&mut tally);
         links::compare_all(&mut tally);
+        nodes::compare_all(&mut tally);
     }
     tally.finish()
 }

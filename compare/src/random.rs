@@ -20,3 +20,13 @@ impl Random {
         (0..count).map(|_| self.next() as u8).collect()
     }
 }
+
+/// Whether something happens that happens once in so many times.
+pub fn once_in(random: &mut Random, times: usize) -> bool {
+    random.upto(times - 1) == 0
+}
+
+/// One of the values.
+pub fn one_of<T: Copy>(random: &mut Random, values: &[T]) -> T {
+    values[random.upto(values.len() - 1)]
+}

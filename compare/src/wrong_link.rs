@@ -4,7 +4,7 @@
 use crate::check::{check, Verdict};
 use crate::link_call::Call;
 use crate::link_case::{Case, Program, SECOND};
-use crate::link_step::{Record, Step, Stepped, ACKNOWLEDGEMENT_AWAITED, AUTHENTICATION_AWAITED, CONFIRM_AWAITED, OPEN};
+use crate::link_step::{Record, Step, Stepped, CONFIRM_AWAITED, OPEN};
 use crate::telegram::{written, End, Telegram, LONGEST};
 
 pub struct Wrong {
@@ -148,7 +148,7 @@ pub fn is_open(step: &Step) -> bool {
 }
 
 pub fn is_waiting(step: &Step) -> bool {
-    [CONFIRM_AWAITED, AUTHENTICATION_AWAITED, ACKNOWLEDGEMENT_AWAITED].contains(&step.record.phase)
+    step.record.waits()
 }
 
 pub fn is_tick(step: &Step) -> bool {
