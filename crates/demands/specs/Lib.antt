@@ -1,0 +1,7 @@
+pub mod Pairs
+pub mod Demand1
+pub mod Demand2
+pub mod Demand3
+pub mod Law
+pub mod Unique
+pub mod Worked
