@@ -55,7 +55,7 @@ use Rattle.demands.proofs.Steps.{Writes, writes, taken-in, judged-open}
 -- What arrives
 
 -- the mirrored record is the one that the route names
-for-mirror : (a b : ℕ) (r q : Record) → Mirror a r b q → isFor (routeFrom a r) q ≡ true
+pub for-mirror : (a b : ℕ) (r q : Record) → Mirror a r b q → isFor (routeFrom a r) q ≡ true
 unfolding endOf
 for-mirror a b r q m =
     rw (

@@ -2,6 +2,8 @@ pub mod Pairs
 pub mod Demand1
 pub mod Demand2
 pub mod Demand3
+pub mod EveryStep
 pub mod Law
+pub mod SetUp
 pub mod Unique
 pub mod Worked

@@ -1,0 +1,95 @@
+-- Demand 2, set-up: from two closed mirrored records the four telegrams, each received in time, end with both open and mirrored in both directions, at both
+-- levels, whatever the random numbers.
+-- Assumes nothing.
+use mathlib.Core.Path.{_≡_}
+use mathlib.Core.Bool.{false}
+use mathlib.Core.List.{List}
+use Prim.Native.Nat.{ℕ, _^_, _<_}
+use lib.ListN.{length}
+use Rattle.checkword.specs.Bytes.{Bytes}
+use Rattle.link.specs.Times.{waitOver}
+use Rattle.link.specs.declared.Record.{Record}
+use Rattle.link.specs.declared.IdleTime.{IdleTime}
+use Rattle.link.specs.declared.Event.the-variants.{Opened}
+use Rattle.node.specs.declared.Head.{Head}
+use Rattle.node.specs.Accepted.{recordAt}
+use Rattle.node.specs.Calls.{Left, called}
+use Rattle.node.specs.Calls.Call.{Open, Received}
+use Rattle.demands.specs.Pairs.{Mirror, Open-to, telegramOf, routeFrom, Done}
+
+-- What a call is given: its time and buffer, a random number, and an idle time and net data for a request or a possible confirm.
+pub record Given : Type 0 where
+  pub time : ℕ
+  pub out : List ℕ
+  pub random : ℕ
+  pub idle-time : IdleTime
+  pub net : List ℕ
+
+-- The opener, its record at place i; the responder, its record at place j; and what each of the five calls is given.
+pub record Parties : Type 0 where
+  pub head : Head
+  pub table : List Record
+  pub i : ℕ
+  pub head′ : Head
+  pub table′ : List Record
+  pub j : ℕ
+  pub first : Given
+  pub second : Given
+  pub third : Given
+  pub fourth : Given
+  pub fifth : Given
+
+-- The opener's record and the responder's.
+abbrev pub here : Parties → Record
+here p = recordAt (p .table) (p .i)
+
+abbrev pub there : Parties → Record
+there p = recordAt (p .table′) (p .j)
+
+-- A telegram of one taken by a node with this head and table.
+abbrev pub takes : Left → ℕ → Record → Head → List Record → Given → Left
+takes l own r k u g = called (Received (routeFrom own r) (g .random) (g .idle-time) (telegramOf l) (g .net)) k u (g .time) (g .out)
+
+-- The five calls: the opener asks, the responder confirms, the opener authenticates, the responder acknowledges and is open, the opener is open.
+abbrev pub asks : Parties → Left
+asks p = called (Open (p .i) (p .first .random) (p .first .idle-time) (p .first .net)) (p .head) (p .table) (p .first .time) (p .first .out)
+
+abbrev pub confirms : Parties → Left
+confirms p = takes (asks p) (p .head .own) (here p) (p .head′) (p .table′) (p .second)
+
+abbrev pub authenticates : Parties → Left
+authenticates p = takes (confirms p) (p .head′ .own) (there p) (asks p .outcome .head) (asks p .table) (p .third)
+
+abbrev pub acknowledges : Parties → Left
+acknowledges p = takes (authenticates p) (p .head .own) (here p) (confirms p .outcome .head) (confirms p .table) (p .fourth)
+
+abbrev pub opens : Parties → Left
+opens p = takes (acknowledges p) (p .head′ .own) (there p) (authenticates p .outcome .head) (authenticates p .table) (p .fifth)
+
+-- Closed and mirrored; every call is done; no wait is over when its telegram comes.
+pub record Sets-up (p : Parties) : Type 0 where
+  pub mirror : Mirror (p .head .own) (here p) (p .head′ .own) (there p)
+  pub place : p .j < length (p .table′)
+  pub closed-there : there p .phase ≡ 1
+  pub random-here : p .first .random < 2 ^ 32
+  pub random-there : p .second .random < 2 ^ 32
+  pub net-here : Bytes (p .first .net)
+  pub net-there : Bytes (p .second .net)
+  pub asked : Done (asks p)
+  pub confirmed : Done (confirms p)
+  pub confirmed-in-time : waitOver (recordAt (asks p .table) (p .i)) (p .third .time) ≡ false
+  pub authenticated : Done (authenticates p)
+  pub authenticated-in-time : waitOver (recordAt (confirms p .table) (p .j)) (p .fourth .time) ≡ false
+  pub acknowledged : Done (acknowledges p)
+  pub acknowledged-in-time : waitOver (recordAt (authenticates p .table) (p .i)) (p .fifth .time) ≡ false
+  pub opened : Done (opens p)
+
+-- Both say that they are open, and each is open to the other.
+pub record Both-open (p : Parties) : Type 0 where
+  pub opener : opens p .outcome .event ≡ Opened
+  pub responder : acknowledges p .outcome .event ≡ Opened
+  pub towards-responder : Open-to (p .head .own) (recordAt (opens p .table) (p .i)) (p .head′ .own) (recordAt (acknowledges p .table) (p .j))
+  pub towards-opener : Open-to (p .head′ .own) (recordAt (acknowledges p .table) (p .j)) (p .head .own) (recordAt (opens p .table) (p .i))
+
+abbrev pub Demand-2-set-up : Type 0
+Demand-2-set-up = (p : Parties) → Sets-up p → Both-open p
