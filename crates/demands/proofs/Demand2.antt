@@ -42,15 +42,33 @@ use Rattle.link.specs.declared.Event.the-variants as event
 use Rattle.link.specs.declared.Verdict.{Verdict}
 use Rattle.link.specs.declared.Verdict.the-variants.{Nothing, Confirm, Authenticate, Acknowledge, Open as Opens, Data, Idle, SendIdle, Disconnected, Close as Closes}
 use Rattle.node.specs.declared.Head.{Head}
+use Rattle.node.specs.Heads.{at}
 use Rattle.node.specs.Accepted.{nowhere, recordAt}
 use Rattle.node.specs.Matching.{isFor, firstMatch}
 use Rattle.node.specs.Calls.{Call, Left, placeOf, stepOf, stepOut, called}
 use Rattle.node.specs.Calls.Call.{Open, Close, Send, Received, Tick}
 use Rattle.node.proofs.Facts.{by-route, net-data-handed-on, others-unchanged, partners-stay, stays-accepted}
-use Rattle.demands.specs.Pairs.{Mirror, Open-to, telegramOf, routeFrom, Done}
-use Rattle.demands.specs.Demand2.{Connected, arrival, Comes-up, Sent-comes-up, Idle-is-taken, Disconnect-closes, textOf, Demand-2-one-step}
+use Rattle.demands.specs.Pairs.{Mirror, Open-to, telegramOf, routeFrom, Done, Nodes, Connected, Moment, after}
+use Rattle.demands.specs.Demand2.{Comes-up, Sent-comes-up, Idle-is-taken, Disconnect-closes, textOf, Demand-2-one-step}
 use Rattle.demands.proofs.Carried.{Carried, carried, stepIn}
 use Rattle.demands.proofs.Steps.{Writes, writes, taken-in, judged-open}
+
+-- Two nodes by their heads and tables, as the calls take them; the statements put them together.
+record Link (h : Head) (t : List Record) (i : ℕ) (k : Head) (u : List Record) (j : ℕ) : Type 0 where
+  there : j < length u
+  open-to : Open-to (h .own) (recordAt t i) (k .own) (recordAt u j)
+
+-- the call with which the partner takes what a call for the record r of the node h wrote
+abbrev arrival : Left → Head → Record → ℕ → IdleTime → List ℕ → Call
+arrival l h r random idle net = Received (routeFrom (h .own) r) random idle (telegramOf l) net
+
+-- a call keeps the node's address
+own-kept : (c : Call) (h : Head) (t : List Record) (time : ℕ) (d : List ℕ) → Done (called c h t time d) → called c h t time d .outcome .head .own ≡ h .own
+unfolding at
+own-kept c h t time d done = ap (λ (y : Head). y .own) (carried c h t time d done .head)
+
+linked : (n : Nodes) (i j : ℕ) → Connected n i j → Link (n .head) (n .table) i (n .head′) (n .table′) j
+linked n i j c = record { there = c .there; open-to = c .open-to }
 
 -- What arrives
 
@@ -108,7 +126,7 @@ record There (k : Head) (u : List Record) (j : ℕ) (c : Call) (at : ℕ) (e : L
   count : j < length (called c k u at e .table)
 
 taken-there : (l : Left) (h k : Head) (t u : List Record) (i j at random : ℕ) (idle : IdleTime) (spare e : List ℕ) (v : Kind) (vs net : List ℕ)
-    → Connected h t i k u j → watchOver (recordAt u j) at ≡ false → Taken (endOf (recordAt t i) (h .own)) (recordAt t i .sending) (telegramOf l) v vs net
+    → Link h t i k u j → watchOver (recordAt u j) at ≡ false → Taken (endOf (recordAt t i) (h .own)) (recordAt t i .sending) (telegramOf l) v vs net
     → Done (called (arrival l h (recordAt t i) random idle spare) k u at e)
     → There k u j (arrival l h (recordAt t i) random idle spare) at e
     (actOf (narrowed (ruled (rowOf v) 5) (recordAt u j) (telegramOf l)) (recordAt u j) (k .own) at random (declaredBy idle) (telegramOf l) spare e)
@@ -162,7 +180,7 @@ module _ (h k : Head) (t u : List Record) (i j low time at random : ℕ) (idle-t
   unfolding sendOf sendOut writesData
   send-writes c = writes (sendRefusal r (h .own) low net d) (refusal end (length d) (dataAllowed low (length net) (end .level))) x d r (sent r time) 7 event.Nothing (c .number)
 
-  module _ (bytes : Bytes net) (link : Connected h t i k u j) (watch : watchOver (recordAt u j) at ≡ false) (done : Done l)
+  module _ (bytes : Bytes net) (link : Link h t i k u j) (watch : watchOver (recordAt u j) at ≡ false) (done : Done l)
       (got : Done (called (arrival l h r random idle-time spare) k u at e)) where
     c : Carried (Send i low net) h t time d
     c = carried (Send i low net) h t time d done
@@ -192,7 +210,7 @@ module _ (h k : Head) (t u : List Record) (i j low time at random : ℕ) (idle-t
           net-data = net-data-handed-on (routeFrom (h .own) r) random idle-time (telegramOf l) spare k u at e two ∙ is-taken .net-data;
         }
 
-    again : Connected h (l .table) i k (called (arrival l h r random idle-time spare) k u at e .table) j
+    again : Link h (l .table) i k (called (arrival l h r random idle-time spare) k u at e .table) j
     unfolding quietly
     again =
         record {
@@ -200,9 +218,24 @@ module _ (h k : Head) (t u : List Record) (i j low time at random : ℕ) (idle-t
           open-to = rw (left-by (Send i low net) h t time d c, send-writes c .left, there .table) (still-open (h .own) (k .own) time at r (recordAt u j) (link .open-to));
         }
 
+-- connected under the heads that come back
+connects : (n : Nodes) (i j : ℕ) (c : Call) (m : Moment) → Done (called c (n .head) (n .table) (m .time) (m .out))
+    → Done (called (arrival (called c (n .head) (n .table) (m .time) (m .out)) (n .head) (recordAt (n .table) i) (m .random) (m .idle-time) (m .spare)) (n .head′) (n .table′) (m .at) (m .back))
+    → Link (n .head) (called c (n .head) (n .table) (m .time) (m .out) .table) i (n .head′)
+    (called (arrival (called c (n .head) (n .table) (m .time) (m .out)) (n .head) (recordAt (n .table) i) (m .random) (m .idle-time) (m .spare)) (n .head′) (n .table′) (m .at) (m .back) .table) j
+    → Connected (after n i c m) i j
+connects n i j c m done taken l =
+    record {
+      there = l .there;
+      open-to = rw (own-kept c (n .head) (n .table) (m .time) (m .out) done, own-kept _ (n .head′) (n .table′) (m .at) (m .back) taken) (l .open-to);
+    }
+
 pub sent-comes-up : Sent-comes-up
-sent-comes-up h k t u i j low time at random idle net spare d e bytes link watch done got =
-    (up h k t u i j low time at random idle net spare d e bytes link watch done got, again h k t u i j low time at random idle net spare d e bytes link watch done got)
+sent-comes-up n i j low net m bytes link ok = (
+  up (n .head) (n .head′) (n .table) (n .table′) i j low (m .time) (m .at) (m .random) (m .idle-time) net (m .spare) (m .out) (m .back) bytes (linked n i j link) (ok .in-time) (ok .done) (ok .taken),
+  connects n i j (Send i low net) m (ok .done) (ok .taken)
+      (again (n .head) (n .head′) (n .table) (n .table′) i j low (m .time) (m .at) (m .random) (m .idle-time) net (m .spare) (m .out) (m .back) bytes (linked n i j link) (ok .in-time) (ok .done) (ok .taken)),
+)
 
 -- Which telegram a verdict writes
 
@@ -294,18 +327,27 @@ module _ (h k : Head) (t u : List Record) (i j time at random : ℕ) (idle-time 
     unfolding writesIdle
     is-takenᵢ = subst (λ (y : List ℕ). Taken endᵢ (rᵢ .sending) y kind.Idle [] []) (sym isᵢ) (idle-taken endᵢ (rᵢ .sending) d (idle endᵢ (rᵢ .sending)) (idle-writes .written))
 
+    idle-there : (link : Link h t i k u j) → watchOver (recordAt u j) at ≡ false → Done (called (arrival lᵢ h rᵢ random idle-time spare) k u at e)
+        → There k u j (arrival lᵢ h rᵢ random idle-time spare) at e (actOf Idle (recordAt u j) (k .own) at random (declaredBy idle-time) (telegramOf lᵢ) spare e)
+    idle-there link watch got = taken-there lᵢ h k t u i j at random idle-time spare e kind.Idle [] [] link watch is-takenᵢ got
+
 pub idle-is-taken : Idle-is-taken
 unfolding quietly
-idle-is-taken h k t u i j time at random idle-time spare d e link watch done idles got =
-    let l = called (Tick i) h t time d in
-    let there = taken-there l h k t u i j at random idle-time spare e kind.Idle [] [] link watch (is-takenᵢ h k t u i j time at random idle-time spare d e done idles) got in (
+idle-is-taken n i j m link ok idles =
+    let there =
+    idle-there (n .head) (n .head′) (n .table) (n .table′) i j (m .time) (m .at) (m .random) (m .idle-time) (m .spare) (m .out) (m .back) (ok .done) idles (linked n i j link) (ok .in-time) (ok .taken) in (
       ap (λ (y : Event). happened y .event) (there .event),
-      record {
-        there = there .count;
-        open-to =
-            rw (left-by (Tick i) h t time d (carried (Tick i) h t time d done), idle-writes h k t u i j time at random idle-time spare d e done idles .left, there .table)
-            (still-open (h .own) (k .own) time at (recordAt t i) (recordAt u j) (link .open-to));
-      },
+      connects n i j (Tick i) m (ok .done) (ok .taken)
+          (record {
+            there = there .count;
+            open-to =
+                rw (
+                  left-by (Tick i) (n .head) (n .table) (m .time) (m .out) (carried (Tick i) (n .head) (n .table) (m .time) (m .out) (ok .done)),
+                  idle-writes (n .head) (n .head′) (n .table) (n .table′) i j (m .time) (m .at) (m .random) (m .idle-time) (m .spare) (m .out) (m .back) (ok .done) idles .left,
+                  there .table,
+                )
+                (still-open (n .head .own) (n .head′ .own) (m .time) (m .at) (recordAt (n .table) i) (recordAt (n .table′) j) (link .open-to));
+          }),
     )
 
 -- What a closing writes
@@ -385,9 +427,12 @@ disconnecting (Received w random i telegram net) r own time d bytes z five =
     act-disconnects (receivedRefusal r own i telegram net d) (judged r own time telegram) r own time random (declaredBy i) telegram net d z five
 disconnecting (Tick place) r own time d bytes z five = act-disconnects (tickRefusal r own d) (ticked r time) r own time 0 0 [] [] d z five
 
-pub disconnect-closes : Disconnect-closes
+closes : (c : Call) (h k : Head) (t u : List Record) (i j time at random : ℕ) (idle : IdleTime) (spare d e : List ℕ) → placeOf c t ≡ i → Bytes (textOf c) → Link h t i k u j
+    → watchOver (recordAt u j) at ≡ false → Done (called c h t time d) → called c h t time d .outcome .answer .telegram ≡ 5
+    → Done (called (arrival (called c h t time d) h (recordAt t i) random idle spare) k u at e)
+    → called (arrival (called c h t time d) h (recordAt t i) random idle spare) k u at e .outcome .event ≡ called c h t time d .outcome .event
 unfolding quietly
-disconnect-closes c h k t u i j time at random idle-time spare d e place bytes link watch done five got =
+closes c h k t u i j time at random idle-time spare d e place bytes link watch done five got =
     let g = carried c h t time d done in let r = recordAt t i in let x = telegramOf (called c h t time d) in
     let s = disconnecting c (recordAt t (placeOf c t)) (h .own) time d bytes (g .number) (ap (λ (y : Answer). y .telegram) (sym (g .answer)) ∙ five) in
     let is : x ≡ disconnect (endOf (recordAt t (placeOf c t)) (h .own)) (recordAt t (placeOf c t) .sending) (s .type) (s .reason) (s .text) = told-by c h t time d _ g (s .telegram) in
@@ -397,6 +442,11 @@ disconnect-closes c h k t u i j time at random idle-time spare d e place bytes l
     (subst (λ (z : List ℕ). Taken (endOf (recordAt t (placeOf c t)) (h .own)) (recordAt t (placeOf c t) .sending) z kind.Disconnect (s .type ∷ s .reason ∷ []) (s .text)) (sym is) at-place) in
     let there = taken-there (called c h t time d) h k t u i j at random idle-time spare e kind.Disconnect (s .type ∷ s .reason ∷ []) (s .text) link watch y got in
     there .event ∙ ap (λ (vs : List ℕ). event.Closed (getD vs 1 0) (eqb (getD vs 0 0) 0)) (y .fields) ∙ sym (s .event) ∙ sym (g .event)
+
+pub disconnect-closes : Disconnect-closes
+disconnect-closes n i j c m place bytes link ok five =
+    closes c (n .head) (n .head′) (n .table) (n .table′) i j (m .time) (m .at) (m .random) (m .idle-time) (m .spare) (m .out) (m .back) place bytes (linked n i j link) (ok .in-time) (ok .done) five
+    (ok .taken)
 
 pub demand-2-one-step : Demand-2-one-step
 demand-2-one-step =

@@ -1,14 +1,20 @@
--- The two ends of a connection, and a telegram between them.
+-- Two nodes, the two ends of a connection between them, and a telegram from one to the other.
 -- Assumes nothing.
 use mathlib.Core.Path.{_≡_}
+use mathlib.Core.Bool.{false}
 use mathlib.Core.List.{List}
-use Prim.Native.Nat.{ℕ}
-use lib.ListN.{take}
+use Prim.Native.Nat.{ℕ, _<_}
+use lib.ListN.{length, take}
 use Rattle.telegram.specs.Ends.{mirrored}
 use Rattle.link.specs.Records.{endOf}
+use Rattle.link.specs.Times.{watchOver}
 use Rattle.link.specs.declared.Record.{Record}
+use Rattle.link.specs.declared.IdleTime.{IdleTime}
+use Rattle.node.specs.declared.Head.{Head}
 use Rattle.node.specs.declared.Route.{Route}
-use Rattle.node.specs.Calls.{Left}
+use Rattle.node.specs.Accepted.{recordAt}
+use Rattle.node.specs.Calls.{Call, Left, called}
+use Rattle.node.specs.Calls.Call.{Received}
 
 -- The record q of the node b is the mirror of the record r of the node a: addresses and SAPs crossed, one level.
 abbrev pub Mirror : ℕ → Record → ℕ → Record → Type 0
@@ -32,3 +38,44 @@ routeFrom own r = record { sender = own; «destination_sap» = r .«partner_sap�
 -- The call was done.
 abbrev pub Done : Left → Type 0
 Done l = l .outcome .answer .number ≡ 0
+
+-- Two nodes, by head and table: the one that sends, and its partner.
+pub record Nodes : Type 0 where
+  pub head : Head
+  pub table : List Record
+  pub head′ : Head
+  pub table′ : List Record
+
+-- The sender's record at place i is open to the partner's record at place j.
+pub record Connected (n : Nodes) (i j : ℕ) : Type 0 where
+  pub there : j < length (n .table′)
+  pub open-to : Open-to (n .head .own) (recordAt (n .table) i) (n .head′ .own) (recordAt (n .table′) j)
+
+-- The circumstances of a telegram: when it is sent and when it is received, the buffers of both ends, and what the receiving call lends for a possible confirm.
+pub record Moment : Type 0 where
+  pub time : ℕ
+  pub at : ℕ
+  pub out : List ℕ
+  pub back : List ℕ
+  pub random : ℕ
+  pub idle-time : IdleTime
+  pub spare : List ℕ
+
+-- A call of the sender.
+abbrev pub sent : Nodes → Call → Moment → Left
+sent n c m = called c (n .head) (n .table) (m .time) (m .out)
+
+-- The call with which the partner takes what it wrote for the record at place i: the telegram, under the address and SAPs that it was sent under.
+abbrev pub got : Nodes → ℕ → Call → Moment → Left
+got n i c m =
+    called (Received (routeFrom (n .head .own) (recordAt (n .table) i)) (m .random) (m .idle-time) (telegramOf (sent n c m)) (m .spare)) (n .head′) (n .table′) (m .at) (m .back)
+
+-- The nodes afterwards.
+abbrev pub after : Nodes → ℕ → Call → Moment → Nodes
+after n i c m = record { head = sent n c m .outcome .head; table = sent n c m .table; head′ = got n i c m .outcome .head; table′ = got n i c m .table }
+
+-- Both calls are done, and the telegram comes in time: the watch of the partner's record at place j has not run out.
+pub record Arrives (n : Nodes) (i j : ℕ) (c : Call) (m : Moment) : Type 0 where
+  pub done : Done (sent n c m)
+  pub taken : Done (got n i c m)
+  pub in-time : watchOver (recordAt (n .table′) j) (m .at) ≡ false
