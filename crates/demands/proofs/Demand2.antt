@@ -27,7 +27,7 @@ use Rattle.telegram.specs.declared.Check.the-variants.{Passes}
 use Rattle.telegram.specs.declared.Written.{Written}
 use Rattle.telegram.proofs.Refusals.{clear, data-command, data-small}
 use Rattle.telegram.proofs.Taken.{data-taken, idle-taken, disconnect-taken}
-use Rattle.link.specs.Records.{endOf, become, closedBy}
+use Rattle.link.specs.Records.{endOf, isClosed, become, closedBy}
 use Rattle.link.specs.Times.{watchOver}
 use Rattle.link.specs.Judged.{rowOf, ruled, narrowed, judged, ticked}
 use Rattle.link.specs.Steps.{unlessStep, unlessOut, refusedStep, actOut, next, taken, sent, quietly, writingStep, actOf, declaredBy, sendRefusal, sendOf, sendOut, tickRefusal, tickOf, tickOut, closeRefusal, closeOf, closeOut, receivedRefusal, receivedOf, receivedOut, openRefusal, openOf, openOut}
@@ -49,14 +49,16 @@ use Rattle.node.specs.Calls.{Call, Left, placeOf, stepOf, stepOut, called}
 use Rattle.node.specs.Calls.Call.{Open, Close, Send, Received, Tick}
 use Rattle.node.proofs.Facts.{by-route, net-data-handed-on, others-unchanged, partners-stay, stays-accepted}
 use Rattle.demands.specs.Pairs.{Mirror, Open-to, telegramOf, routeFrom, Done, Nodes, Connected, Moment, after}
-use Rattle.demands.specs.Demand2.{Comes-up, Sent-comes-up, Idle-is-taken, Disconnect-closes, textOf, Demand-2-one-step}
+use Rattle.demands.specs.Demand2.{Comes-up, Closed-alike, Sent-comes-up, Idle-is-taken, Disconnect-closes, textOf, Demand-2-one-step}
 use Rattle.demands.proofs.Carried.{Carried, carried, stepIn}
 use Rattle.demands.proofs.Steps.{Writes, writes, taken-in, judged-open}
 
 -- Two nodes by their heads and tables, as the calls take them; the statements put them together.
 record Link (h : Head) (t : List Record) (i : ℕ) (k : Head) (u : List Record) (j : ℕ) : Type 0 where
+  here : i < length t
   there : j < length u
   open-to : Open-to (h .own) (recordAt t i) (k .own) (recordAt u j)
+  open-back : Open-to (k .own) (recordAt u j) (h .own) (recordAt t i)
 
 -- the call with which the partner takes what a call for the record r of the node h wrote
 abbrev arrival : Left → Head → Record → ℕ → IdleTime → List ℕ → Call
@@ -68,7 +70,7 @@ unfolding at
 own-kept c h t time d done = ap (λ (y : Head). y .own) (carried c h t time d done .head)
 
 linked : (n : Nodes) (i j : ℕ) → Connected n i j → Link (n .head) (n .table) i (n .head′) (n .table′) j
-linked n i j c = record { there = c .there; open-to = c .open-to }
+linked n i j c = record { here = c .here; there = c .there; open-to = c .open-to; open-back = c .open-back }
 
 -- What arrives
 
@@ -152,6 +154,11 @@ still-open : (a b time at : ℕ) (r q : Record) → Open-to a r b q → Open-to 
 unfolding sent taken become endOf
 still-open a b time at r q o = record { ends = o .ends; open-here = refl; open-there = refl; number = ap next (o .number) }
 
+-- and the other way
+still-back : (a b time at : ℕ) (r q : Record) → Open-to b q a r → Open-to b (taken q at) a (sent r time)
+unfolding sent taken become endOf
+still-back a b time at r q o = record { ends = o .ends; open-here = refl; open-there = refl; number = o .number }
+
 -- What send writes
 
 -- the command's low six bits read back
@@ -214,8 +221,10 @@ module _ (h k : Head) (t u : List Record) (i j low time at random : ℕ) (idle-t
     unfolding quietly
     again =
         record {
+          here = rw (others-unchanged .count (Send i low net) h t time d) (link .here);
           there = there .count;
           open-to = rw (left-by (Send i low net) h t time d c, send-writes c .left, there .table) (still-open (h .own) (k .own) time at r (recordAt u j) (link .open-to));
+          open-back = rw (left-by (Send i low net) h t time d c, send-writes c .left, there .table) (still-back (h .own) (k .own) time at r (recordAt u j) (link .open-back));
         }
 
 -- connected under the heads that come back
@@ -226,8 +235,10 @@ connects : (n : Nodes) (i j : ℕ) (c : Call) (m : Moment) → Done (called c (n
     → Connected (after n i c m) i j
 connects n i j c m done taken l =
     record {
+      here = l .here;
       there = l .there;
       open-to = rw (own-kept c (n .head) (n .table) (m .time) (m .out) done, own-kept _ (n .head′) (n .table′) (m .at) (m .back) taken) (l .open-to);
+      open-back = rw (own-kept c (n .head) (n .table) (m .time) (m .out) done, own-kept _ (n .head′) (n .table′) (m .at) (m .back) taken) (l .open-back);
     }
 
 pub sent-comes-up : Sent-comes-up
@@ -335,18 +346,17 @@ pub idle-is-taken : Idle-is-taken
 unfolding quietly
 idle-is-taken n i j m link ok idles =
     let there =
-    idle-there (n .head) (n .head′) (n .table) (n .table′) i j (m .time) (m .at) (m .random) (m .idle-time) (m .spare) (m .out) (m .back) (ok .done) idles (linked n i j link) (ok .in-time) (ok .taken) in (
+    idle-there (n .head) (n .head′) (n .table) (n .table′) i j (m .time) (m .at) (m .random) (m .idle-time) (m .spare) (m .out) (m .back) (ok .done) idles (linked n i j link) (ok .in-time) (ok .taken) in
+    let left =
+    left-by (Tick i) (n .head) (n .table) (m .time) (m .out) (carried (Tick i) (n .head) (n .table) (m .time) (m .out) (ok .done))
+    ∙ idle-writes (n .head) (n .head′) (n .table) (n .table′) i j (m .time) (m .at) (m .random) (m .idle-time) (m .spare) (m .out) (m .back) (ok .done) idles .left in (
       ap (λ (y : Event). happened y .event) (there .event),
       connects n i j (Tick i) m (ok .done) (ok .taken)
           (record {
+            here = rw (others-unchanged .count (Tick i) (n .head) (n .table) (m .time) (m .out)) (link .here);
             there = there .count;
-            open-to =
-                rw (
-                  left-by (Tick i) (n .head) (n .table) (m .time) (m .out) (carried (Tick i) (n .head) (n .table) (m .time) (m .out) (ok .done)),
-                  idle-writes (n .head) (n .head′) (n .table) (n .table′) i j (m .time) (m .at) (m .random) (m .idle-time) (m .spare) (m .out) (m .back) (ok .done) idles .left,
-                  there .table,
-                )
-                (still-open (n .head .own) (n .head′ .own) (m .time) (m .at) (recordAt (n .table) i) (recordAt (n .table′) j) (link .open-to));
+            open-to = rw (left, there .table) (still-open (n .head .own) (n .head′ .own) (m .time) (m .at) (recordAt (n .table) i) (recordAt (n .table′) j) (link .open-to));
+            open-back = rw (left, there .table) (still-back (n .head .own) (n .head′ .own) (m .time) (m .at) (recordAt (n .table) i) (recordAt (n .table′) j) (link .open-back));
           }),
     )
 
@@ -372,6 +382,7 @@ record Disconnects (r : Record) (own : ℕ) (d : List ℕ) (s : Step) (out : Lis
   bytes : Bytes text
   written : writesDisconnect (endOf r own) (r .sending) type reason text d ≡ wrote (disconnect (endOf r own) (r .sending) type reason text)
   event : s .event ≡ event.Closed reason (eqb type 0)
+  left : s .«record» ≡ closedBy (eqb type 0) r
   telegram : take (s .answer .length) out ≡ disconnect (endOf r own) (r .sending) type reason text
 
 by-type : (last : Bool) → eqb (pick last 0 1) 0 ≡ last
@@ -400,6 +411,7 @@ act-disconnects zero v r own time random declared t net d z five = by v (only-cl
           bytes = tt;
           written = w .written;
           event = w .event ∙ ap (event.Closed reason) (sym (by-type last));
+          left = w .left ∙ ap (λ (b : Bool). closedBy b r) (sym (by-type last));
           telegram = w .bytes;
         })
 act-disconnects (suc n) v r own time random declared t net d z five =
@@ -417,7 +429,7 @@ disconnecting (Close place type reason text) r own time d bytes z five =
     let w =
     writes (closeRefusal r own type reason text d) (refusal (endOf r own) (length d) (disconnectAllowed type reason (length text) (endOf r own .level)))
     (disconnect (endOf r own) (r .sending) type reason text) d r (closedBy (eqb type 0) r) 5 (event.Closed reason (eqb type 0)) z in
-    record { type = type; reason = reason; text = text; bytes = bytes; written = w .written; event = w .event; telegram = w .bytes }
+    record { type = type; reason = reason; text = text; bytes = bytes; written = w .written; event = w .event; left = w .left; telegram = w .bytes }
 disconnecting (Send place low net) r own time d bytes z five =
     let w =
     writes (sendRefusal r own low net d) (refusal (endOf r own) (length d) (dataAllowed low (length net) (endOf r own .level))) (dataTelegram (endOf r own) (r .sending) low net) d r (sent r time) 7
@@ -427,10 +439,20 @@ disconnecting (Received w random i telegram net) r own time d bytes z five =
     act-disconnects (receivedRefusal r own i telegram net d) (judged r own time telegram) r own time random (declaredBy i) telegram net d z five
 disconnecting (Tick place) r own time d bytes z five = act-disconnects (tickRefusal r own d) (ticked r time) r own time 0 0 [] [] d z five
 
+-- what closing leaves of the phase
+phase-alike : (last : Bool) (q r : Record) → closedBy last q .phase ≡ closedBy last r .phase
+unfolding closedBy become
+phase-alike last q r = refl
+
+phase-closed : (last : Bool) (r : Record) → isClosed (closedBy last r .phase) ≡ true
+unfolding closedBy become isClosed pick
+phase-closed true r = refl
+phase-closed false r = refl
+
 closes : (c : Call) (h k : Head) (t u : List Record) (i j time at random : ℕ) (idle : IdleTime) (spare d e : List ℕ) → placeOf c t ≡ i → Bytes (textOf c) → Link h t i k u j
     → watchOver (recordAt u j) at ≡ false → Done (called c h t time d) → called c h t time d .outcome .answer .telegram ≡ 5
     → Done (called (arrival (called c h t time d) h (recordAt t i) random idle spare) k u at e)
-    → called (arrival (called c h t time d) h (recordAt t i) random idle spare) k u at e .outcome .event ≡ called c h t time d .outcome .event
+    → Closed-alike (called c h t time d) (called (arrival (called c h t time d) h (recordAt t i) random idle spare) k u at e) i j
 unfolding quietly
 closes c h k t u i j time at random idle-time spare d e place bytes link watch done five got =
     let g = carried c h t time d done in let r = recordAt t i in let x = telegramOf (called c h t time d) in
@@ -441,7 +463,15 @@ closes c h k t u i j time at random idle-time spare d e place bytes link watch d
     subst (λ (m : ℕ). Taken (endOf (recordAt t m) (h .own)) (recordAt t m .sending) x kind.Disconnect (s .type ∷ s .reason ∷ []) (s .text)) place
     (subst (λ (z : List ℕ). Taken (endOf (recordAt t (placeOf c t)) (h .own)) (recordAt t (placeOf c t) .sending) z kind.Disconnect (s .type ∷ s .reason ∷ []) (s .text)) (sym is) at-place) in
     let there = taken-there (called c h t time d) h k t u i j at random idle-time spare e kind.Disconnect (s .type ∷ s .reason ∷ []) (s .text) link watch y got in
-    there .event ∙ ap (λ (vs : List ℕ). event.Closed (getD vs 1 0) (eqb (getD vs 0 0) 0)) (y .fields) ∙ sym (s .event) ∙ sym (g .event)
+    let here : recordAt (called c h t time d .table) i ≡ closedBy (eqb (s .type) 0) (recordAt t (placeOf c t)) =
+    subst (λ (m : ℕ). recordAt (called c h t time d .table) m ≡ closedBy (eqb (s .type) 0) (recordAt t (placeOf c t))) place (left-by c h t time d g ∙ s .left) in
+    record {
+      same-event = there .event ∙ ap (λ (vs : List ℕ). event.Closed (getD vs 1 0) (eqb (getD vs 0 0) 0)) (y .fields) ∙ sym (s .event) ∙ sym (g .event);
+      same-phase =
+          ap (λ (z : Record). z .phase) (there .table ∙ ap (λ (vs : List ℕ). closedBy (eqb (getD vs 0 0) 0) (recordAt u j)) (y .fields)) ∙ phase-alike (eqb (s .type) 0) (recordAt u j) (recordAt t (placeOf c t))
+          ∙ ap (λ (z : Record). z .phase) (sym here);
+      closed = ap (λ (z : Record). isClosed (z .phase)) here ∙ phase-closed (eqb (s .type) 0) (recordAt t (placeOf c t));
+    }
 
 pub disconnect-closes : Disconnect-closes
 disconnect-closes n i j c m place bytes link ok five =

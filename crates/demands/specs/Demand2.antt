@@ -1,12 +1,15 @@
 -- Demand 2: what an open end writes, its mirrored record takes, and net data come up unchanged; a call for one connection changes no other.
 -- Assumes nothing.
 use mathlib.Core.Path.{_≡_}
+use mathlib.Core.Bool.{true}
 use mathlib.Core.List.{List, []}
 use Prim.Native.Nat.{ℕ}
 use Rattle.checkword.specs.Bytes.{Bytes}
+use Rattle.link.specs.Records.{isClosed}
 use Rattle.link.specs.Plain.{happened}
 use Rattle.link.specs.declared.Event.{Event}
-use Rattle.node.specs.Calls.{Call, placeOf}
+use Rattle.node.specs.Accepted.{recordAt}
+use Rattle.node.specs.Calls.{Call, Left, placeOf}
 use Rattle.node.specs.Calls.Call.{Open, Close, Send, Received, Tick}
 use Rattle.node.specs.Plain.{dataOf}
 use Rattle.node.specs.Facts.{Others-unchanged, Partners-stay, Stays-accepted}
@@ -38,12 +41,18 @@ textOf (Send place low net) = []
 textOf (Received w random i telegram net) = []
 textOf (Tick place) = []
 
+-- Both ends say the same of a closing, and both records are closed alike, finally or not.
+pub record Closed-alike (l g : Left) (i j : ℕ) : Type 0 where
+  pub same-event : g .outcome .event ≡ l .outcome .event
+  pub same-phase : recordAt (g .table) j .phase ≡ recordAt (l .table) i .phase
+  pub closed : isClosed (recordAt (l .table) i .phase) ≡ true
+
 -- The disconnect (5) that a call for the record wrote, close as well as tick and received by themselves, closes the partner with the same reason, finally or
 -- not as here.
 abbrev pub Disconnect-closes : Type 0
 Disconnect-closes =
     (n : Nodes) (i j : ℕ) (c : Call) (m : Moment) → placeOf c (n .table) ≡ i → Bytes (textOf c) → Connected n i j → Arrives n i j c m
-    → sent n c m .outcome .answer .telegram ≡ 5 → got n i c m .outcome .event ≡ sent n c m .outcome .event
+    → sent n c m .outcome .answer .telegram ≡ 5 → Closed-alike (sent n c m) (got n i c m) i j
 
 -- A call for one record leaves every other record as it was; an accepted table stays accepted.
 pub record Isolation : Type 0 where

@@ -1,5 +1,5 @@
--- Demand 2, over every step: whatever is sent, one after the other and each received in time, the partner hands up exactly that, in order, and the two stay
--- connected.
+-- Demand 2, over every step: whatever is sent, one telegram after the other in either direction and each received in time, the other end hands up exactly
+-- that, in order, and the two stay connected.
 -- Assumes nothing.
 use mathlib.Core.Path.{_≡_}
 use mathlib.Core.List.{List, [], _∷_, _++_}
@@ -14,57 +14,83 @@ use Rattle.node.specs.Calls.Call.{Send, Tick}
 use Rattle.node.specs.Plain.{dataOf}
 use Rattle.demands.specs.Pairs.{telegramOf, Nodes, Connected, Moment, sent, got, after, Arrives}
 
+-- From the first node to the second, or back.
+pub data Way : Type 0 where
+  there : Way
+  back : Way
+
 -- A telegram from one end to the other: a message, by its command and net bytes, or an idle telegram by a tick.
 pub data Exchange : Type 0 where
-  message : ℕ → List ℕ → Moment → Exchange
-  idle : Moment → Exchange
+  message : Way → ℕ → List ℕ → Moment → Exchange
+  idle : Way → Moment → Exchange
+
+abbrev pub wayOf : Exchange → Way
+wayOf (message w low net m) = w
+wayOf (idle w m) = w
 
 abbrev pub momentOf : Exchange → Moment
-momentOf (message low net m) = m
-momentOf (idle m) = m
+momentOf (message w low net m) = m
+momentOf (idle w m) = m
+
+-- The two nodes with the sender first, and the places of sender and receiver.
+abbrev pub facing : Way → Nodes → Nodes
+facing there n = n
+facing back n = record { head = n .head′; table = n .table′; head′ = n .head; table′ = n .table }
+
+abbrev pub sender : Way → ℕ → ℕ → ℕ
+sender there i j = i
+sender back i j = j
+
+abbrev pub receiver : Way → ℕ → ℕ → ℕ
+receiver there i j = j
+receiver back i j = i
 
 abbrev pub callOf : ℕ → Exchange → Call
-callOf i (message low net m) = Send i low net
-callOf i (idle m) = Tick i
+callOf place (message w low net m) = Send place low net
+callOf place (idle w m) = Tick place
 
--- The sending call, the partner's call, and the nodes afterwards.
-abbrev pub says : Nodes → ℕ → Exchange → Left
-says n i x = sent n (callOf i x) (momentOf x)
+-- The sending call, the receiving call, and the nodes afterwards.
+abbrev pub says : Nodes → ℕ → ℕ → Exchange → Left
+says n i j x = sent (facing (wayOf x) n) (callOf (sender (wayOf x) i j) x) (momentOf x)
 
-abbrev pub hears : Nodes → ℕ → Exchange → Left
-hears n i x = got n i (callOf i x) (momentOf x)
+abbrev pub hears : Nodes → ℕ → ℕ → Exchange → Left
+hears n i j x = got (facing (wayOf x) n) (sender (wayOf x) i j) (callOf (sender (wayOf x) i j) x) (momentOf x)
 
-abbrev pub then-on : Nodes → ℕ → Exchange → Nodes
-then-on n i x = after n i (callOf i x) (momentOf x)
+abbrev pub then-on : Nodes → ℕ → ℕ → Exchange → Nodes
+then-on n i j x = facing (wayOf x) (after (facing (wayOf x) n) (sender (wayOf x) i j) (callOf (sender (wayOf x) i j) x) (momentOf x))
 
 -- What an exchange needs: a message has bytes, and a tick wrote an idle telegram (6), which it does where one is due and its own watch has not run out.
 abbrev pub Suits : Exchange → Left → Type 0
-Suits (message low net m) l = Bytes net
-Suits (idle m) l = l .outcome .answer .telegram ≡ 6
+Suits (message w low net m) l = Bytes net
+Suits (idle w m) l = l .outcome .answer .telegram ≡ 6
+
+-- The telegram arrives: both calls are done, and it comes in time.
+abbrev pub Goes-well : Nodes → ℕ → ℕ → Exchange → Type 0
+Goes-well n i j x = Arrives (facing (wayOf x) n) (sender (wayOf x) i j) (receiver (wayOf x) i j) (callOf (sender (wayOf x) i j) x) (momentOf x)
 
 abbrev pub All-go-well : Nodes → ℕ → ℕ → List Exchange → Type 0
 All-go-well n i j [] = Unit {0}
-All-go-well n i j (x ∷ xs) = Suits x (says n i x) × (Arrives n i j (callOf i x) (momentOf x) × All-go-well (then-on n i x) i j xs)
+All-go-well n i j (x ∷ xs) = Suits x (says n i j x) × (Goes-well n i j x × All-go-well (then-on n i j x) i j xs)
 
--- What the event of a taken telegram hands up: a data event its command and net bytes, any other nothing.
-abbrev pub handedBy : Event → List ℕ → List (ℕ × List ℕ)
-handedBy e telegram = pick (eqb (happened e .event) 2) ((happened e .command, dataOf e telegram) ∷ []) []
+-- What a taken telegram hands up: a data event its command and net bytes, any other nothing.
+abbrev pub handedBy : Way → Event → List ℕ → List (Way × (ℕ × List ℕ))
+handedBy w e telegram = pick (eqb (happened e .event) 2) ((w, (happened e .command, dataOf e telegram)) ∷ []) []
 
--- What the partner hands up over all of it, and what was said.
-abbrev pub handed-up : Nodes → ℕ → List Exchange → List (ℕ × List ℕ)
-handed-up n i [] = []
-handed-up n i (x ∷ xs) = handedBy (hears n i x .outcome .event) (telegramOf (says n i x)) ++ handed-up (then-on n i x) i xs
+-- What the two hand up over all of it, and what was said.
+abbrev pub handed-up : Nodes → ℕ → ℕ → List Exchange → List (Way × (ℕ × List ℕ))
+handed-up n i j [] = []
+handed-up n i j (x ∷ xs) = handedBy (wayOf x) (hears n i j x .outcome .event) (telegramOf (says n i j x)) ++ handed-up (then-on n i j x) i j xs
 
-abbrev pub messages : List Exchange → List (ℕ × List ℕ)
+abbrev pub messages : List Exchange → List (Way × (ℕ × List ℕ))
 messages [] = []
-messages (message low net m ∷ xs) = (low, net) ∷ messages xs
-messages (idle m ∷ xs) = messages xs
+messages (message w low net m ∷ xs) = (w, (low, net)) ∷ messages xs
+messages (idle w m ∷ xs) = messages xs
 
 -- Connected at the start, and after each exchange.
 abbrev pub Stay-connected : Nodes → ℕ → ℕ → List Exchange → Type 0
 Stay-connected n i j [] = Connected n i j
-Stay-connected n i j (x ∷ xs) = Connected n i j × Stay-connected (then-on n i x) i j xs
+Stay-connected n i j (x ∷ xs) = Connected n i j × Stay-connected (then-on n i j x) i j xs
 
 abbrev pub Demand-2-over-every-step : Type 0
 Demand-2-over-every-step =
-    (n : Nodes) (i j : ℕ) (xs : List Exchange) → Connected n i j → All-go-well n i j xs → (handed-up n i xs ≡ messages xs) × Stay-connected n i j xs
+    (n : Nodes) (i j : ℕ) (xs : List Exchange) → Connected n i j → All-go-well n i j xs → (handed-up n i j xs ≡ messages xs) × Stay-connected n i j xs

@@ -46,10 +46,12 @@ pub record Nodes : Type 0 where
   pub head′ : Head
   pub table′ : List Record
 
--- The sender's record at place i is open to the partner's record at place j.
+-- The sender's record at place i and the partner's record at place j are open to each other.
 pub record Connected (n : Nodes) (i j : ℕ) : Type 0 where
+  pub here : i < length (n .table)
   pub there : j < length (n .table′)
   pub open-to : Open-to (n .head .own) (recordAt (n .table) i) (n .head′ .own) (recordAt (n .table′) j)
+  pub open-back : Open-to (n .head′ .own) (recordAt (n .table′) j) (n .head .own) (recordAt (n .table) i)
 
 -- The circumstances of a telegram: when it is sent and when it is received, the buffers of both ends, and what the receiving call lends for a possible confirm.
 pub record Moment : Type 0 where
