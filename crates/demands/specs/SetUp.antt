@@ -1,19 +1,34 @@
 -- Demand 2, set-up: from two closed mirrored records the four telegrams, each received in time, end with both open and mirrored in both directions, at both
 -- levels, whatever the random numbers.
 -- Assumes nothing.
-use mathlib.Core.Path.{_≡_}
+use mathlib.Core.Path.{_≡_, refl}
 use mathlib.Core.Bool.{false}
-use mathlib.Core.List.{List}
+use mathlib.Core.List.{List, [], _∷_}
 use Prim.Native.Nat.{ℕ, _^_, _<_}
-use lib.ListN.{length}
+use lib.ListN.{length, replicate}
+use lib.Dec.{lit<}
 use Rattle.checkword.specs.Bytes.{Bytes}
+use Rattle.checkword.specs.Generators.{generator48, generator32}
+use Rattle.checkword.specs.Word.{shift, feed}
+use Rattle.telegram.specs.Choice.{pick}
+use Rattle.telegram.specs.Levels.{levelOf, topBits, width, wordLength, generator, added}
+use Rattle.telegram.specs.Commands.{kindOf}
+use Rattle.telegram.specs.Values.{goodIdle, goodDualBus}
+use Rattle.telegram.specs.Ends.{inRange, implicit}
+use Rattle.telegram.specs.Telegrams.{request, sealed, body, checkWord, confirm, authentication, acknowledgement}
+use Rattle.telegram.specs.Writers.{refusal, connectAllowed, writesRequest, writesConfirm, writesAuthentication, writesAcknowledgement}
+use Rattle.telegram.specs.Check.{checkOf, wordAgrees}
+use Rattle.link.specs.Records.{recordInRange, endOf, isPhase, isClosed, become, atRest, freshOf}
 use Rattle.link.specs.Times.{waitOver}
+use Rattle.link.specs.Judged.{judged, passed, expectedNow, runOut, goodVersion, goodNumber}
+use Rattle.link.specs.Steps.{firstRefusal, writingStep, openRefusal, openOf, openOut, receivedRefusal, receivedOf, receivedOut, declaredBy, quietly}
 use Rattle.link.specs.declared.Record.{Record}
 use Rattle.link.specs.declared.IdleTime.{IdleTime}
 use Rattle.link.specs.declared.Event.the-variants.{Opened}
 use Rattle.node.specs.declared.Head.{Head}
-use Rattle.node.specs.Accepted.{recordAt}
-use Rattle.node.specs.Calls.{Left, called}
+use Rattle.node.specs.Heads.{at}
+use Rattle.node.specs.Accepted.{recordAt, accepted, boundsAccepted, recordAccepted}
+use Rattle.node.specs.Calls.{Left, called, asked, settled}
 use Rattle.node.specs.Calls.Call.{Open, Received}
 use Rattle.demands.specs.Pairs.{Mirror, Open-to, telegramOf, routeFrom, Done}
 
@@ -93,3 +108,65 @@ pub record Both-open (p : Parties) : Type 0 where
 
 abbrev pub Demand-2-set-up : Type 0
 Demand-2-set-up = (p : Parties) → Sets-up p → Both-open p
+
+-- Worked example: what a call is given at this time, with this random number and these net data, and no idle time named.
+abbrev pub exampleGiven : ℕ → ℕ → List ℕ → Given
+exampleGiven time random net = record { time = time; out = replicate 244 0; random = random; idle-time = record { named = false; time = 0 }; net = net }
+
+-- Node 8 opens a connection to node 9, from SAP 3 to SAP 3 at this level, with the random numbers 01234567h and 89ABCDEFh (5.3.1.7). The request carries the net
+-- byte 1, the confirm the net bytes 2 and 3.
+abbrev pub exampleParties : ℕ → Parties
+exampleParties level =
+    record {
+      head = record { own = 8; latest = 0 };
+      table = freshOf 9 3 3 level ∷ [];
+      i = 0;
+      head′ = record { own = 9; latest = 0 };
+      table′ = freshOf 8 3 3 level ∷ [];
+      j = 0;
+      first = exampleGiven 1000 0x01234567 (1 ∷ []);
+      second = exampleGiven 1010 0x89ABCDEF (2 ∷ 3 ∷ []);
+      third = exampleGiven 1020 0 [];
+      fourth = exampleGiven 1030 0 [];
+      fifth = exampleGiven 1040 0 [];
+    }
+
+-- Every call is done and in time, at level 4 and at level 2.
+pub example-sets-up : Sets-up (exampleParties 4) × Sets-up (exampleParties 2)
+unfolding called asked settled accepted boundsAccepted recordAccepted recordInRange endOf inRange isPhase isClosed goodIdle firstRefusal writingStep refusal openRefusal openOf openOut connectAllowed writesRequest request become receivedRefusal receivedOf receivedOut declaredBy judged passed expectedNow runOut checkOf wordAgrees levelOf quietly sealed body checkWord implicit topBits width wordLength generator generator48 generator32 shift feed kindOf writesConfirm confirm writesAuthentication authentication writesAcknowledgement acknowledgement added goodVersion goodNumber goodDualBus waitOver at atRest freshOf pick
+example-sets-up = (
+  record {
+    mirror = refl;
+    place = lit< tt;
+    closed-there = refl;
+    random-here = lit< tt;
+    random-there = lit< tt;
+    net-here = (lit< tt, tt);
+    net-there = (lit< tt, (lit< tt, tt));
+    asked = refl;
+    confirmed = refl;
+    confirmed-in-time = refl;
+    authenticated = refl;
+    authenticated-in-time = refl;
+    acknowledged = refl;
+    acknowledged-in-time = refl;
+    opened = refl;
+  },
+  record {
+    mirror = refl;
+    place = lit< tt;
+    closed-there = refl;
+    random-here = lit< tt;
+    random-there = lit< tt;
+    net-here = (lit< tt, tt);
+    net-there = (lit< tt, (lit< tt, tt));
+    asked = refl;
+    confirmed = refl;
+    confirmed-in-time = refl;
+    authenticated = refl;
+    authenticated-in-time = refl;
+    acknowledged = refl;
+    acknowledged-in-time = refl;
+    opened = refl;
+  },
+)
