@@ -1,8 +1,8 @@
-//! The check of a received telegram, in the six clauses of document 01, and where a telegram's net data lie.
+//! The check of a received telegram, in the six clauses of the scope, and where a telegram's net data lie.
 
 use crate::telegram::{idle_time_allowed, new_setup_known, sealed, End, Kind, Level, Way, BAD_TELEGRAM, LONGEST, OUT_OF_RANGE};
 
-/// Document 01: a telegram to be checked has at least this many bytes, or it is refused.
+/// The scope: a telegram to be checked has at least this many bytes, or it is refused.
 pub const SHORTEST: usize = 6;
 
 /// What the check asks, one question each.

@@ -44,7 +44,7 @@ pub fn commands() -> Vec<Case> {
     cases
 }
 
-/// The lengths that suit a kind, by the tables of 5.2 and document 01.
+/// The lengths that suit a kind, by the tables of 5.2 and the scope.
 fn suiting(kind: Kind, level: Level) -> RangeInclusive<usize> {
     match (kind, level) {
         (Kind::Request | Kind::Confirm, Level::Sl4) => 18..=244,

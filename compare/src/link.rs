@@ -1,4 +1,4 @@
-//! The second program's connection: section 5.5 for SL 4 and SL 2, as document 01 narrows it. The table of 5.5.1.5 drives every step.
+//! The second program's connection: section 5.5 for SL 4 and SL 2, as the scope narrows it. The table of 5.5.1.5 drives every step.
 
 use crate::check::{byte, check, field, net_data, Verdict, SHORTEST};
 use crate::link_call::{Call, Naming};
@@ -9,9 +9,9 @@ use Operation::*;
 
 /// 7.2.1.1: the acknowledgement timeout period in milliseconds.
 const ACKNOWLEDGEMENT_TIMEOUT: u64 = 5000;
-/// Document 01: the idle time that is declared where none is named.
+/// The scope: the idle time that is declared where none is named.
 const UNNAMED_IDLE_TIME: u32 = 500;
-/// Document 01: the X and the Y that a request and a confirm must have.
+/// The scope: the X and the Y that a request and a confirm must have.
 const ACCEPTED_VERSION: [u8; 2] = [3, 0];
 
 /// The numbers of the refusals that a connection adds to those of a telegram.
@@ -108,7 +108,7 @@ const DEFECT: Option<State> = Some(State::Defect);
 /// 5.5.1.5, row by row as printed: the actions, then the next states. The columns are the states in their order.
 ///
 /// These cells are not met as printed, because their event does not happen:
-/// - Timeout_snd in wAuthAck. Document 01 has idle due on an open record only. The record has no room for our random number, which is `sending` - 2 there, and
+/// - Timeout_snd in wAuthAck. The scope has idle due on an open record only. The record has no room for our random number, which is `sending` - 2 there, and
 ///   an idle telegram would shift it.
 /// - Timeout_rcv in wConAck, wAuthReq and wAuthAck. The watch starts with the last telegram of the set-up (5.2.6.2.1).
 /// - Timeout_brk in Data. f_04 and f_12 have stopped that timer.
@@ -192,7 +192,7 @@ fn gap(timer: u64, now: u64) -> u64 {
     now.saturating_sub(timer)
 }
 
-/// Document 01: every telegram sent or taken adds one to its number modulo 2^32, and sets its timer.
+/// The scope: every telegram sent or taken adds one to its number modulo 2^32, and sets its timer.
 fn sent(record: Record, time: u64) -> Record {
     let sending = record.sending.wrapping_add(1);
     Record {
@@ -279,14 +279,14 @@ impl Link {
         }
     }
 
-    /// 5.2.6.5: the idle cycle interval timer, which document 01 sets to half of the time that we declared.
+    /// 5.2.6.5: the idle cycle interval timer, which the scope sets to half of the time that we declared.
     fn idle_due(&self, now: u64) -> Option<Happening> {
         let gap = u128::from(gap(self.record.sent_at, now));
         let declared = u128::from(self.record.declared);
         (self.state == State::Data && declared != 0 && 2 * gap >= declared).then(|| TimeoutSnd)
     }
 
-    /// Document 01: the number expected. Neither a closed record nor one that awaits a confirm knows its partner's; 0 is expected then.
+    /// The scope: the number expected. Neither a closed record nor one that awaits a confirm knows its partner's; 0 is expected then.
     fn number_expected(&self) -> u32 {
         match self.state {
             State::Idle | State::WConAck => 0,

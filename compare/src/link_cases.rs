@@ -168,7 +168,7 @@ pub fn idle_times_received() -> Vec<Case> {
     cases
 }
 
-/// Authentications and acknowledgements with right and wrong numbers, around every number at which something carries over. Document 01's worked numbers are
+/// Authentications and acknowledgements with right and wrong numbers, around every number at which something carries over. The scope's worked numbers are
 /// among them: 89ABCDEFh gives 89ABCDF0h at SL 4 and 89ABCDF1h at SL 2, FFFFFFFFh gives 0 and 1.
 pub fn authentication_numbers() -> Vec<Case> {
     let mut cases = Vec::new();

@@ -1,4 +1,4 @@
-//! What document 01 and the clauses of 5.2 demand of one connection's steps, said a second time and not taken from the second program: by phase and telegram,
+//! What the scope and the clauses of 5.2 demand of one connection's steps, said a second time and not taken from the second program: by phase and telegram,
 //! and by phase and time.
 
 use crate::link_call::Call;

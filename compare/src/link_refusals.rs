@@ -287,7 +287,7 @@ pub fn net_lengths() -> Vec<Case> {
     let mut cases = Vec::new();
     for length in lengths {
         for (record, own) in records() {
-            // As document 01 prints them; 40 is from 5.2.5.9.
+            // As the scope prints them; 40 is from 5.2.5.9.
             let (request_most, data_most) = if record.level == 4 { (226, 236) } else { (228, 238) };
             let request = bytes(&record, own, Kind::Request);
             let calls = [

@@ -67,7 +67,7 @@ pub fn records() -> Vec<(Record, u32)> {
     SENDERS.into_iter().flat_map(of).collect()
 }
 
-/// The number that the partner's next telegram has. Before its request or confirm it has none, and document 01 takes 0.
+/// The number that the partner's next telegram has. Before its request or confirm it has none, and the scope takes 0.
 pub fn next_number(record: &Record) -> u32 {
     match record.phase {
         CLOSED | CONFIRM_AWAITED => 0,

@@ -1,4 +1,4 @@
-//! The second program's node: document 01, "The table" and "Numbers a call can answer". Which tables are good, which record a call is about, and the
+//! The second program's node: the scope, "The table" and "Numbers a call can answer". Which tables are good, which record a call is about, and the
 //! refusals in their order; the step itself is that of one connection.
 
 use crate::link::{is_bad_telegram, Link, ENDED, WRONG_PHASE};

@@ -1,4 +1,4 @@
-//! A case of a node: a table, what the node is asked, and what document 01 demands of it. It is put to the library and to the second program, which
+//! A case of a node: a table, what the node is asked, and what the scope demands of it. It is put to the library and to the second program, which
 //! must agree in head, answer, table and buffer, with the guards before and behind these two, and meet the demand.
 
 use crate::library_node;

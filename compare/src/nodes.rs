@@ -1,4 +1,4 @@
-//! The node: the library against the second program case by case and on random busses, the cases of document 01 by name, and the cases against wrong
+//! The node: the library against the second program case by case and on random busses, the cases of the scope by name, and the cases against wrong
 //! nodes.
 
 use crate::node_case::Case;

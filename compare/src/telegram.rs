@@ -7,7 +7,7 @@ use std::ops::RangeInclusive;
 pub const LONGEST: usize = 244;
 /// 5.2.5.9: the longest text of a disconnect.
 const LONGEST_TEXT: usize = 40;
-/// 5.2.1.3, bytes 9..11: the version that document 01 has us write.
+/// 5.2.1.3, bytes 9..11: the version that the scope has us write.
 const VERSION: [u8; 3] = [3, 0, 0];
 /// 5.2.1.3, byte 12: not equipped with dual busses.
 const NO_DUAL_BUS: [u8; 1] = [0];

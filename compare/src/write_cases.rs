@@ -96,7 +96,7 @@ pub fn idle_times() -> Vec<Case> {
 pub fn net_lengths() -> Vec<Case> {
     let mut cases = Vec::new();
     for end in SENDERS {
-        // The longest net data of request and confirm, and of data, as document 01 prints them.
+        // The longest net data of request and confirm, and of data, as the scope prints them.
         let (request_most, data_most) = if end.level == 4 { (226, 236) } else { (228, 238) };
         for length in (0..=260).chain([300, 512, 0x1_0000, 0x1_0000 + 5]) {
             let net = || pattern(length);

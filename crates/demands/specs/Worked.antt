@@ -1,4 +1,4 @@
--- Document 01, "Worked numbers": the lines marked P as one list with one statement. Each line says what the paper prints of the definition that the contracts
+-- The scope, "Worked numbers": the lines marked P as one list with one statement. Each line says what the paper prints of the definition that the contracts
 -- use, with the paper's words above it. proofs/Worked.antt proves the statement under the same name in small letters.
 -- Assumes nothing.
 use mathlib.Core.Path.{_≡_}

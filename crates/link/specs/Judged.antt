@@ -1,4 +1,4 @@
--- What a received telegram or a tick asks for: by the transition table, narrowed where document 01 asks for more than the table knows. Order when several hold:
+-- What a received telegram or a tick asks for: by the transition table, narrowed where the scope asks for more than the table knows. Order when several hold:
 -- wait or watch run out, the check's clauses, the phase, the authentication number or version; on a tick closing before idle.
 -- Assumes nothing.
 use mathlib.Core.Bool.{Bool, true, false}

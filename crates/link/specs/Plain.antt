@@ -1,4 +1,4 @@
--- A step as plain numbers, for C: document 01's number and values for each case of the event.
+-- A step as plain numbers, for C: the scope's number and values for each case of the event.
 -- Assumes nothing.
 use mathlib.Core.Bool.{true, false}
 use Prim.Native.Nat.{ℕ}

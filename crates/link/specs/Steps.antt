@@ -21,7 +21,7 @@ use Rattle.link.specs.declared.Event.the-variants as event
 use Rattle.link.specs.declared.Verdict.{Verdict}
 use Rattle.link.specs.declared.Verdict.the-variants.{Nothing, Confirm, Authenticate, Acknowledge, Open, Data, Idle, SendIdle, Disconnected, Close}
 
--- The first refusal that holds, 0 where none does, in document 01's order: 1 the record's fields or the own address out of range, 4 no room in the buffer, 6 no
+-- The first refusal that holds, 0 where none does, in the scope's order: 1 the record's fields or the own address out of range, 4 no room in the buffer, 6 no
 -- telegram that the bus can carry, 8 finally closed, 3 a phase that the step is not for, 5 a value not allowed.
 unfoldable pub firstRefusal : Bool → Bool → Bool → Bool → Bool → Bool → ℕ
 firstRefusal ranged room carried live suited allowed =

@@ -1,4 +1,4 @@
--- The transition table of 5.5.1.5 as printed, row by row, and beside it the cells that document 01 reads otherwise.
+-- The transition table of 5.5.1.5 as printed, row by row, and beside it the cells that the scope reads otherwise.
 -- Assumes nothing.
 use mathlib.Core.Bool.{Bool, false}
 use mathlib.Core.List.{List, [], _∷_}
@@ -56,14 +56,14 @@ cell row phase = getD (cells row) (phase - 1) (f00 ⇒ stays)
 -- narrowed where that is known (`narrowed` in Judged, `Disconnected` in Steps): version and authentication number (8.1.2, 5.1.4), and the type of a received
 -- disconnect (5.2.5.3).
 abbrev pub reading : Row → ℕ → Cell
--- F_06 in wAuthAck: no idle telegram while the acknowledgement is awaited. Document 01 has idle due on an open connection only, against f_03 and 5.2.6.2.2: the
+-- F_06 in wAuthAck: no idle telegram while the acknowledgement is awaited. The scope has idle due on an open connection only, against f_03 and 5.2.6.2.2: the
 -- record keeps our random number as the number two before the next one sent.
 reading Timeout-snd p = pick (eqb p 4) (f00 ⇒ stays) (cell Timeout-snd p)
 -- f_07 in wConAck, wAuthReq, wAuthAck: the watch runs on an open connection only (5.2.6.2.1).
 reading Timeout-rcv p = pick (eqb p 5) (cell Timeout-rcv p) (f00 ⇒ stays)
 -- f_07 in Data: the acknowledgement timeout is stopped by then (f_04, f_12).
 reading Timeout-brk p = pick (eqb p 5) (f00 ⇒ stays) (cell Timeout-brk p)
--- the whole row: a second incorrect telegram needs a saved time (f_11, f_13), which the record of document 01 does not have; it is taken as a first one.
+-- the whole row: a second incorrect telegram needs a saved time (f_11, f_13), which the record of the scope does not have; it is taken as a first one.
 reading Incorrect-rcv-2nd p = cell Incorrect-rcv-1st p
 -- every other row as printed
 reading Connect-snd p = cell Connect-snd p

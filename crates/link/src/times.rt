@@ -33,7 +33,7 @@ pub(crate) fn watch_over(record: Record, time: u64) -> bool
     (record.watched as u64) < gap_since(record.taken_at, time)
 }
 
-// Whether half of the time that we declared has passed since we last sent. Half rounded up is compared, so that nothing overflows.
+// Whether half of the time that we declared has passed since we last sent. A gap of 2^32 or more is longer than twice any idle time, so that nothing overflows.
 pub(crate) fn idle_due(record: Record, time: u64) -> bool
     ensures { λ b. ⌜ b ≡ idleDue «record» time ⌝ }
 {

@@ -4,10 +4,9 @@
 --     looks-rows             a `&[Record]` is looked into for a share of its row
 --     row-out                element i is taken out of a row, with its relation in hand
 --     makes, typed           what a record owns is had of its relation;  its machine value has the record's MIR type
---     fields                 what a record's relation says of each field.        makes-of     and back.        told         a record that a callee returned
 --     obs-finally            what a caller is told of a `&mut [T]`'s last list
 -- The steps take `Given`. The rest assumes nothing.
-use mathlib.Core.Path.{_≡_, sym, ap, subst}
+use mathlib.Core.Path.{_≡_, sym}
 use Prim.Native.Nat.{ℕ, _+_, _*_, _<_, _^_}
 use native.Mathlib.Omega.{arith}
 use mathlib.Core.List.{List, [], _∷_}
@@ -23,13 +22,10 @@ use ghost.Atoms.{Atoms, sem}
 use types.Kit.{Given, Goal, Soaks, Item, Seq, ‵}
 use types.Share.{arr-parts}
 use denote.RattleType.{RattleType}
-use denote.Laws.{Is, Tells, Makes, shows, valss}
-use denote.Struct.Struct.{AreAll}
-use denote.Struct.Declared.{fields as fieldsOf}
+use denote.Laws.{Is, Tells, Makes, shows}
 use denote.Memory.{cellAt, mem, shares}
 use denote.Slice.{Room, codedHoleys, heres, finally, res-finally}
 use denote.Index.{place, place-is, others, row, elem-out, looks-slice}
-use denote.Steps.{only}
 use denote.Struct.Laws as LL
 use Rattle.link.specs.declared.Record.{Record}
 use Rattle.node.specs.Accepted.{nowhere, recordAt}
@@ -53,21 +49,6 @@ makes 𝓤 H A = LL.makes T.the-type T′.the-plain 𝓤 H A
 
 pub typed : {M : Type 1} (𝓤 : URA M) (H : Heap 𝓤) (A : Atoms 𝓤) (W : Given 𝓤 H A) (r : Record) → Is R r (vals r) → Holds (hasTy T′.mir (val r)) × WT (val r)
 typed 𝓤 H A W r g = LL.lawful T.the-type T′.the-laws 𝓤 H A W .typed r (vals r) g .0
-
--- what a record's relation says of each field: `fields r g .1 .1 .0 .1` is that field 2 fits its width
-pub fields : (r : Record) → Is R r (vals r) → AreAll (fieldsOf T.the-type) (T.the-type .to r) (valss (fieldsOf T.the-type) (LL.spells (T.the-type .parts) T′.the-laws) (T.the-type .to r))
-fields r g = LL.owed T.the-type T′.the-laws r (vals r) g
-
--- and back: a record that is built has its relation of its fields'
-pub makes-of : (r : Record) → AreAll (fieldsOf T.the-type) (T.the-type .to r) (valss (fieldsOf T.the-type) (LL.spells (T.the-type .parts) T′.the-laws) (T.the-type .to r)) → Is R r (vals r)
-makes-of r h = LL.owes T.the-type T′.the-laws r h
-
--- a record that a callee returned as the machine value w, and that is known to be y
-pub told : (r y : Record) (w : Val) → Is R r (w ∷ []) → r ≡ y → Is R y (vals y) × (w ≡ val y)
-told r y w is e = (subst (Is R y) (tells y (w ∷ []) is′) is′, ap only (tells y (w ∷ []) is′))
-  where
-    is′ : Is R y (w ∷ [])
-    is′ = subst (λ (x : Record). Is R x (w ∷ [])) e is
 
 -- the last list of a `&mut [T]`, of what the walk observes
 pub obs-finally : {M : Type 1} (𝓤 : URA M) (H : Heap 𝓤) (A : Atoms 𝓤) (W : Given 𝓤 H A) (E : RattleType) (γ : GName) (zs : List (E .Denot)) → ent 𝓤 (A .obs γ (codedHoleys E .code (heres E zs))) (sem 𝓤 H A (finally E γ zs))

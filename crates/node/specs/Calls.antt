@@ -66,7 +66,7 @@ allowedBy (Send place low net) r = dataAllowed low (length net) (r .level)
 allowedBy (Received w random i telegram net) r = connectAllowed (declaredBy i) (length net) (r .level)
 allowedBy (Tick place) r = true
 
--- What a call asks for, by document 01's table of numbers.
+-- What a call asks for, by the scope's table of numbers.
 unfoldable pub asked : Call → Head → List Record → ℕ → List ℕ → Asked
 asked c h t time d =
     record {

@@ -20,7 +20,7 @@ use Rattle.node.specs.Calls.{Call, placeOf, asked, refusedOutcome, calle
 use Rattle.node.specs.Calls.Call.{Received}
 use Rattle.node.specs.Plain.{dataOf}
 
--- The number answered is the first refusal in document 01's order, 0 where none holds.
+-- The number answered is the first refusal in the scope's order, 0 where none holds.
 abbrev pub First-answered : Type 0
 First-answered = (c : Call) (h : Head) (t : List Record) (time : ℕ) (d : List ℕ) → called c h t time d .outcome .answer .number ≡ first (order (asked c h t time d))
 

@@ -30,7 +30,7 @@ pub record Asked : Type 0 where
   -- the values are allowed
   pub allowed : Bool
 
--- What is answered where it is not, in document 01's order: first what concerns the table, the buffer, the time, the telegram and the place, then what concerns
+-- What is answered where it is not, in the scope's order: first what concerns the table, the buffer, the time, the telegram and the place, then what concerns
 -- the record.
 abbrev pub ofTable : Asked → List (ℕ × Bool)
 ofTable a = (1, a .table) ∷ (4, a .room) ∷ (7, a .timely) ∷ (6, a .carried) ∷ (2, a .placed) ∷ []

@@ -1,4 +1,4 @@
-// The order of the refusals, and those that concern the table, the buffer, the time, the telegram's length and the record's place.
+// The refusals before the record is looked at, in their order: table, buffer, time, the telegram's length, the record's place. The record's own are the step's.
 ghost use mathlib.Core.Path.{_≡_};
 ghost use Rattle.node.specs.Refusals.{ofTable, first, untilPlace, before};
 use crate::Head;

@@ -1,4 +1,4 @@
--- The check of a received telegram: the clauses of document 01 in their order, and the first of them that fails.
+-- The check of a received telegram: the clauses of the scope in their order, and the first of them that fails.
 -- Assumes nothing.
 use mathlib.Core.Bool.{Bool, false}
 use mathlib.Core.List.{List, [], _∷_}

@@ -1,0 +1,95 @@
+#include "node.h"
+#include <string.h>
+
+void node_start(node *n, uint32_t own)
+{
+    n->head = uj_new_head(own);
+    n->count = 0;
+}
+
+size_t node_add(node *n, uint32_t partner, uint32_t partner_sap, uint32_t local_sap, uint32_t level)
+{
+    /* A full table gives a place past it, which every call refuses. */
+    if (n->count == MOST_CONNECTIONS)
+        return MOST_CONNECTIONS;
+    /* From the configuration, never from an arriving frame: that is what keeps two partners apart. */
+    n->table[n->count] = uj_fresh(partner, partner_sap, local_sap, level);
+    return n->count++;
+}
+
+static route route_of(const node *n, size_t place)
+{
+    route r = {0, 0, 0};
+
+    /* A place past the table has no record to look at; the call has refused it. */
+    if (place < n->count) {
+        r.partner = n->table[place].partner;
+        r.partner_sap = n->table[place].partner_sap;
+        r.local_sap = n->table[place].local_sap;
+    }
+    return r;
+}
+
+/* What every call asks for afterwards. `telegram` is the one received, if any. */
+static uint32_t finish(node *n, route r, const char *call, uj_outcome o, const uint8_t *telegram)
+{
+    const uint8_t *net = NULL;
+
+    board_watched(n, r, call, o);
+    /* A refused call has changed nothing: there is nothing to store and nothing to send. */
+    if (o.answer.number != UJ_DONE)
+        return o.answer.number;
+    /* The head holds the latest time. With an old one, a clock that goes back would pass unseen. */
+    n->head = o.head;
+    /* First the telegram, then the layer above: it may make a call in turn, and that call writes into the same buffer. */
+    if (o.answer.telegram != UJ_TELEGRAM_NONE)
+        board_send(n, r, n->out, o.answer.length);
+    if (o.happened.event == UJ_EVENT_DATA)
+        net = telegram + o.happened.start;
+    if (o.happened.event != UJ_EVENT_NOTHING)
+        board_happened(n, r, o.happened, net);
+    return UJ_DONE;
+}
+
+uint32_t node_open(node *n, uint64_t time, size_t place)
+{
+    const uj_outcome o = uj_open(n->table, n->count, n->head, time, place, board_random(n), 1, IDLE_TIME, NULL, 0, n->out, sizeof n->out);
+
+    return finish(n, route_of(n, place), "open", o, NULL);
+}
+
+uint32_t node_close(node *n, uint64_t time, size_t place, uint32_t new_setup, uint32_t reason, const char *text)
+{
+    const uj_outcome o =
+        uj_close(n->table, n->count, n->head, time, place, new_setup, reason, (const uint8_t *)text, strlen(text), n->out, sizeof n->out);
+
+    return finish(n, route_of(n, place), "close", o, NULL);
+}
+
+uint32_t node_send(node *n, uint64_t time, size_t place, uint32_t command, const uint8_t *net, size_t length)
+{
+    const uj_outcome o = uj_send(n->table, n->count, n->head, time, place, command, net, length, n->out, sizeof n->out);
+
+    return finish(n, route_of(n, place), "send", o, NULL);
+}
+
+uint32_t node_received(node *n, uint64_t time, frame f)
+{
+    /* The table may hold the record anywhere, and an answer goes back the way the telegram came: to its sender, with the SAPs exchanged. */
+    const route back = {f.sender, f.source_sap, f.destination_sap};
+    const uj_outcome o = uj_received(n->table, n->count, n->head, time, f.sender, f.destination_sap, f.source_sap, board_random(n), 1, IDLE_TIME,
+                                     f.telegram, f.length, NULL, 0, n->out, sizeof n->out);
+
+    return finish(n, back, "received", o, f.telegram);
+}
+
+void node_tick(node *n, uint64_t time)
+{
+    /* Every record, since each has its own waits and its own watch, and one call writes one telegram at most. */
+    for (size_t place = 0; place < n->count; place++) {
+        /* Of a finally closed one the answer is known: UJ_ENDED. */
+        if (n->table[place].phase == UJ_FINALLY_CLOSED)
+            continue;
+        finish(n, route_of(n, place), "tick", uj_tick(n->table, n->count, n->head, time, place, n->out, sizeof n->out), NULL);
+    }
+}
