@@ -10,24 +10,8 @@ use Rattle.telegram.specs.Values.{goodIdle}
 use Rattle.telegram.specs.declared.End.{End}
 use Rattle.link.specs.declared.Record.{Record}
 
--- The phases (5.5.1.2): Idle, wConAck, wAuthReq, wAuthAck, Data, Defect.
-abbrev pub closed : ℕ
-closed = 1
-
-abbrev pub confirmAwaited : ℕ
-confirmAwaited = 2
-
-abbrev pub authenticationAwaited : ℕ
-authenticationAwaited = 3
-
-abbrev pub acknowledgementAwaited : ℕ
-acknowledgementAwaited = 4
-
-abbrev pub openPhase : ℕ
-openPhase = 5
-
-abbrev pub finallyClosed : ℕ
-finallyClosed = 6
+-- The phases (5.5.1.2) by their numbers: 1 closed (Idle), 2 confirm awaited (wConAck), 3 authentication awaited (wAuthReq), 4 acknowledgement awaited (wAuthAck), 5 open
+-- (Data), 6 finally closed (Defect).
 
 -- The end of the connection that a node of this address is.
 unfoldable pub endOf : Record → ℕ → End

@@ -7,9 +7,6 @@ use link::Record;
 // The most records that a table may have.
 pub const MOST_RECORDS: usize = 64;
 
-// The highest bus address of a node.
-const HIGHEST_ADDRESS: u32 = 126;
-
 // Whether a table has 1 to 64 records, and the own address is in range.
 fn bounds_accepted(count: usize, own: u32) -> bool
     ensures { λ b. ⌜ b ≡ boundsAccepted count own ⌝ }
@@ -20,7 +17,7 @@ fn bounds_accepted(count: usize, own: u32) -> bool
     if MOST_RECORDS < count {
         return false;
     }
-    own <= HIGHEST_ADDRESS
+    own <= telegram::HIGHEST_ADDRESS
 }
 
 // Whether the record's fields are in range, under the head: its timers too.

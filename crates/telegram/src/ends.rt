@@ -3,6 +3,11 @@ ghost use mathlib.Core.Path.{_≡_};
 ghost use Rattle.telegram.specs.Ends.{isLevel, inRange, implicit, sending, receiving};
 use crate::End;
 
+// The highest bus address of a node, and the highest SAP.
+pub const HIGHEST_ADDRESS: u32 = 126;
+
+const HIGHEST_SAP: u32 = 62;
+
 // Whether there is such a level.
 pub(crate) fn is_level(level: u32) -> bool
     ensures { λ b. ⌜ b ≡ isLevel level ⌝ }
@@ -17,16 +22,16 @@ pub(crate) fn is_level(level: u32) -> bool
 pub fn in_range(end: End) -> bool
     ensures { λ b. ⌜ b ≡ inRange end ⌝ }
 {
-    if 126 < end.own {
+    if HIGHEST_ADDRESS < end.own {
         return false;
     }
-    if 126 < end.partner {
+    if HIGHEST_ADDRESS < end.partner {
         return false;
     }
-    if 62 < end.partner_sap {
+    if HIGHEST_SAP < end.partner_sap {
         return false;
     }
-    if 62 < end.local_sap {
+    if HIGHEST_SAP < end.local_sap {
         return false;
     }
     is_level(end.level)

@@ -14,6 +14,7 @@ mod write;
 
 pub use check_telegram::answer_number;
 pub use check_telegram::checked;
+pub use ends::HIGHEST_ADDRESS;
 pub use ends::in_range;
 pub use fields::authentication_number;
 pub use fields::command_low;
