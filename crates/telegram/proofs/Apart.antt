@@ -4,10 +4,11 @@ use mathlib.Core.Path.{_≡_, refl, sym, ap, _∙_}
 use mathlib.Core.Bool.{Bool, true, false}
 use mathlib.Core.List.{List, [], _∷_, _++_, append-cancel-right}
 use mathlib.Core.Logic.{_⊎_, inl, inr}
-use Prim.Native.Nat.{ℕ, zero, suc, _+_, _*_, _/_, _%_, _≤_, _<_}
+use Prim.Native.Nat.{ℕ, zero, suc, _+_, _*_, _/_, _%_, _^_, _≤_, _<_}
 use native.Mathlib.Omega.{arith}
 use lib.ListN.{length, take, drop, getD, length-append, List·getD-eq-default}
-use borrow.Author.Tests.{leb-true, eqb-true}
+use lib.Dec.{eqb}
+use borrow.Author.Tests.{leb-true, eqb-true, eqb-false}
 use Rattle.checkword.specs.Bytes.{Bytes, number, Within}
 use Rattle.checkword.specs.Word.{word}
 use Rattle.checkword.proofs.Bytes.{bytes-append, bytes-take}
@@ -15,18 +16,18 @@ use Rattle.checkword.proofs.Facts.{burst-of}
 use Rattle.telegram.specs.Choice.{pick}
 use Rattle.telegram.specs.Levels.{levelOf, width, generator}
 use Rattle.telegram.specs.Commands.{kindOfCommand}
-use Rattle.telegram.specs.Layout.{values}
+use Rattle.telegram.specs.Layout.{onBus, values}
 use Rattle.telegram.specs.Numbers.{lowestFirst}
 use Rattle.telegram.specs.Ends.{inRange, implicit, receiving}
 use Rattle.telegram.specs.Values.{goodFields}
 use Rattle.telegram.specs.Telegrams.{checkWord}
 use Rattle.telegram.specs.Check.{commandOf, sameLevel, numberUsed, usedFor, covered, wordAgrees, clauses, firstFailing, checkOf}
-use Rattle.telegram.specs.Facts.{Other-partner, Apart-at-4, Apart-at-2, Connect-apart, Level-apart}
+use Rattle.telegram.specs.Facts.{Other-partner, Apart-at-4, Apart-at-2, Connect-apart, One-number, Level-apart}
 use Rattle.telegram.specs.declared.End.{End}
 use Rattle.telegram.specs.declared.Level.{Level}
 use Rattle.telegram.specs.declared.Level.the-variants.{Sl, Unassigned}
 use Rattle.telegram.specs.declared.Kind.{Kind}
-use Rattle.telegram.specs.declared.Kind.the-variants.{Request, Confirm}
+use Rattle.telegram.specs.declared.Kind.the-variants.{Request, Confirm, Authentication, Acknowledgement, Disconnect, Idle, Data, Unknown}
 use Rattle.telegram.specs.declared.Clause.{Clause}
 use Rattle.telegram.specs.declared.Check.{Check}
 use Rattle.telegram.specs.declared.Check.the-variants.{Passes, Failed, Refused}
@@ -60,7 +61,9 @@ hold (c ∷ cs) p =
 -- What a check that passes says.
 pub record Passed (e : End) (m : ℕ) (t : List ℕ) : Type 0 where
   pub in-range : inRange e ≡ true
+  pub on-bus : onBus (length t) ≡ true
   pub of-level : sameLevel (levelOf (commandOf t)) (e .level) ≡ true
+  pub byte-1 : eqb (getD t 0 0) (usedFor m t % 256) ≡ true
   pub good-fields : goodFields (kindOfCommand (commandOf t)) (values (kindOfCommand (commandOf t)) t) ≡ true
   pub agrees : wordAgrees e (usedFor m t) t ≡ true
 
@@ -70,7 +73,14 @@ passed e m t p =
     let ranged = chosen _ _ _ (not-refused 1) p in
     let sized = chosen _ _ _ (not-refused 6) (ranged .1) in
     let all = hold (clauses e m t) (sized .1) in
-    record { in-range = ranged .0; of-level = all .0; good-fields = all .1 .1 .1 .1 .0; agrees = all .1 .1 .1 .1 .1 .0 }
+    record {
+      in-range = ranged .0;
+      on-bus = sized .0;
+      of-level = all .0;
+      byte-1 = all .1 .1 .1 .0;
+      good-fields = all .1 .1 .1 .1 .0;
+      agrees = all .1 .1 .1 .1 .1 .0;
+    }
 
 -- One command says one level.
 one-level : (x : Level) (l m : ℕ) → sameLevel x l ≡ true → sameLevel x m ≡ true → l ≡ m
@@ -155,20 +165,26 @@ unfolding wordAgrees checkWord
 came e l used t p h =
     rw p at (eqb-true (number (drop (covered (e .level) t) t)) (checkWord (e .level) (receiving e used (length t)) (take (covered (e .level) t) t)) h)
 
--- Two ends whose implicit bytes differ within no more places than the word has bytes.
+-- Implicit bytes that differ, within no more places than the word has bytes.
+told : (e f : End) (m n places : ℕ) (t : List ℕ) → Bytes t → 8 * places ≤ width (e .level)
+    → (receiving e (usedFor m t) (length t) ≡ receiving f (usedFor n t) (length t) → ⊥)
+    → Within places (receiving e (usedFor m t) (length t)) (receiving f (usedFor n t) (length t))
+    → checkOf e m t ≡ Passes → checkOf f n t ≡ Passes → ⊥
+told e f m n places t bytes few other within p q =
+    let l : ℕ = e .level in
+    let u : ℕ = usedFor m t in
+    let v : ℕ = usedFor n t in
+    burst-of (width l) (generator l) (generator-good l) places few (whole e l u t) (whole f l v t) (whole-bytes e l u t bytes) (whole-bytes f l v t bytes)
+    (within-append (take (covered l t) t) within) (λ same. other (append-cancel-right _ _ (take (covered l t) t) same))
+    (sym (came e l u t refl (passed e m t p .agrees)) ∙ came f l v t (sym (level-apart e f m n t p q)) (passed f n t q .agrees))
+
+-- So of two ends.
 pub told-apart : (e f : End) (m n places : ℕ) (t : List ℕ) → Bytes t → 8 * places ≤ width (e .level) → Other-partner e f
     → Within places (receiving e (usedFor m t) (length t)) (receiving f (usedFor n t) (length t))
     → checkOf e m t ≡ Passes → checkOf f n t ≡ Passes → ⊥
 told-apart e f m n places t bytes few other within p q =
-    let l : ℕ = e .level in
-    let u : ℕ = usedFor m t in
-    let v : ℕ = usedFor n t in
-    let by-e = passed e m t p in
-    let by-f = passed f n t q in
-    burst-of (width l) (generator l) (generator-good l) places few (whole e l u t) (whole f l v t) (whole-bytes e l u t bytes) (whole-bytes f l v t bytes)
-    (within-append (take (covered l t) t) within)
-    (λ same. shown e f u v (length t) (by-e .in-range) (by-f .in-range) other (append-cancel-right _ _ (take (covered l t) t) same))
-    (sym (came e l u t refl (by-e .agrees)) ∙ came f l v t (sym (level-apart e f m n t p q)) (by-f .agrees))
+    told e f m n places t bytes few
+    (λ same. shown e f (usedFor m t) (usedFor n t) (length t) (passed e m t p .in-range) (passed f n t q .in-range) other same) within p q
 
 -- Of one own address: six places, the partner, the SAPs and the number ..
 six-places : (e f : End) (u v n : ℕ) → e .own ≡ f .own → Within 6 (receiving e u n) (receiving f v n)
@@ -204,3 +220,48 @@ connect-apart e f m n t bytes connect own other =
     told-apart e f m n 3 t bytes (omega (arith, width-is (e .level), word-some (e .level))) other
     (three-places e f (usedFor m t) (usedFor n t) (length t) own
     (own-number (kindOfCommand (commandOf t)) m n (values (kindOfCommand (commandOf t)) t) connect))
+
+-- Of one end: the three bytes of the number.
+number-places : (e : End) (u v n : ℕ) → Within 3 (receiving e u n) (receiving e v n)
+unfolding implicit
+number-places e u v n = within-cons refl (within-cons refl (within-cons refl (within-cons refl (within-cons refl (within-all _ _ refl)))))
+
+-- They and byte 1 show the number: byte by byte.
+joined : (n x y : ℕ) → x < 256 * n → y < 256 * n → x % 256 ≡ y % 256 → (x / 256 < n → y / 256 < n → x / 256 ≡ y / 256) → x ≡ y
+joined n x y h k low rest = let p : x / 256 ≡ y / 256 = rest (omega arith) (omega arith) in omega arith
+
+number-shown : (e : End) (m n byte count : ℕ) → m < 2 ^ 32 → n < 2 ^ 32 → byte ≡ m % 256 → byte ≡ n % 256 → receiving e m count ≡ receiving e n count → m ≡ n
+unfolding implicit
+number-shown e m n byte count h k p q same =
+    let at : (i : ℕ) → getD (receiving e m count) i 0 ≡ getD (receiving e n count) i 0 = λ i. ap (λ (l : List ℕ). getD l i 0) same in
+    joined (2 ^ 24) m n h k (sym p ∙ q)
+    (λ h k. joined (2 ^ 16) (m / 256) (n / 256) h k (at 5)
+    (λ h k. joined (2 ^ 8) (m / 256 / 256) (n / 256 / 256) h k (at 6) (λ h k. joined 1 (m / 256 / 256 / 256) (n / 256 / 256 / 256) h k (at 7) (λ h k. omega arith))))
+
+-- What is expected is what is used, but for a connect request or confirm.
+expected-used : (k : Kind) (m : ℕ) (vs : List ℕ) → (k ≡ Request → ⊥) → (k ≡ Confirm → ⊥) → numberUsed k m vs ≡ m
+expected-used Request m vs r c = absurd (r refl)
+expected-used Confirm m vs r c = absurd (c refl)
+expected-used Authentication m vs r c = refl
+expected-used Acknowledgement m vs r c = refl
+expected-used Disconnect m vs r c = refl
+expected-used Idle m vs r c = refl
+expected-used Data m vs r c = refl
+expected-used Unknown m vs r c = refl
+
+pub one-number : One-number
+one-number e m n t bytes request confirm h k p q = by (eqb m n) refl
+  where
+    used : (x : ℕ) → usedFor x t ≡ x
+    used x = expected-used (kindOfCommand (commandOf t)) x (values (kindOfCommand (commandOf t)) t) request confirm
+
+    first : (x : ℕ) → checkOf e x t ≡ Passes → getD t 0 0 ≡ x % 256
+    first x passes = eqb-true (getD t 0 0) (usedFor x t % 256) (passed e x t passes .byte-1) ∙ ap (λ (y : ℕ). y % 256) (used x)
+
+    by : (b : Bool) → eqb m n ≡ b → m ≡ n
+    by true f = eqb-true m n f
+    by false f =
+        absurd
+        (told e e m n 3 t bytes (omega (arith, width-is (e .level), word-some (e .level)))
+        (λ same. eqb-false m n f (number-shown e m n (getD t 0 0) (length t) h k (first m p) (first n q) (rw (used m, used n) at same)))
+        (number-places e (usedFor m t) (usedFor n t) (length t)) p q)

@@ -89,6 +89,12 @@ Connect-apart =
     (e f : End) (m n : ℕ) (t : List ℕ) → Bytes t → (kindOfCommand (commandOf t) ≡ Request) ⊎ (kindOfCommand (commandOf t) ≡ Confirm)
     → e .own ≡ f .own → Other-partner e f → checkOf e m t ≡ Passes → checkOf f n t ≡ Passes → ⊥
 
+-- A telegram other than a connect request or confirm passes at one expected number only: all 32 bits count, though the telegram carries the lowest eight.
+abbrev pub One-number : Type 0
+One-number =
+    (e : End) (m n : ℕ) (t : List ℕ) → Bytes t → (kindOfCommand (commandOf t) ≡ Request → ⊥) → (kindOfCommand (commandOf t) ≡ Confirm → ⊥)
+    → m < 2 ^ 32 → n < 2 ^ 32 → checkOf e m t ≡ Passes → checkOf e n t ≡ Passes → m ≡ n
+
 -- A telegram passes no check of another level.
 abbrev pub Level-apart : Type 0
 Level-apart = (e f : End) (m n : ℕ) (t : List ℕ) → checkOf e m t ≡ Passes → checkOf f n t ≡ Passes → e .level ≡ f .level
