@@ -3,18 +3,19 @@
 use mathlib.Core.Path.{_≡_, refl, sym, _∙_}
 use mathlib.Core.Bool.{Bool, true, false}
 use mathlib.Core.List.{List}
-use Prim.Native.Nat.{ℕ, _<_}
+use Prim.Native.Nat.{ℕ, _≤_, _<_}
 use lib.ListN.{length, set}
 use lib.Dec.{T, eqb}
-use borrow.Author.Tests.{eqb-false, eq-eqb}
+use borrow.Author.Tests.{eqb-false, eq-eqb, ne-eqb, le-leb, lt-ltb}
 use Rattle.telegram.specs.Choice.{pick}
+use Rattle.telegram.specs.Layout.{longest}
 use Rattle.link.specs.declared.Record.{Record}
 use Rattle.link.specs.declared.Step.{Step}
 use Rattle.node.specs.declared.Head.{Head}
 use Rattle.node.specs.Heads.{at}
 use Rattle.node.specs.Accepted.{recordAt, accepted}
 use Rattle.node.specs.Refusals.{order, first, before}
-use Rattle.node.specs.Calls.{Call, placeOf, carriedBy, asked, stepOf, stepOut, refusedOutcome, settled, called}
+use Rattle.node.specs.Calls.{Call, placeOf, carriedBy, suitedTo, allowedBy, asked, stepOf, stepOut, refusedOutcome, settled, called}
 use Rattle.node.proofs.Facts.{first-answered}
 use Rattle.node.proofs.Order.{refused-answered, fine-by, placed}
 use Rattle.demands.specs.Pairs.{Done}
@@ -66,3 +67,20 @@ carried c h t time d done =
     by : (b : Bool) → eqb n 0 ≡ b → first (order (asked c h t time d)) ≡ 0 → T (eqb n 0)
     by true e z = rw e tt
     by false e z = absurd (eqb-false n 0 e (sym (refused-answered c h t time d (rw e tt)) ∙ z))
+
+-- a call is done where nothing in the order refuses it
+pub done-by : (c : Call) (h : Head) (t : List Record) (time : ℕ) (d : List ℕ) → accepted h t ≡ true → 244 ≤ length d → h .latest ≤ time → carriedBy c ≡ true → placeOf c t < length t
+    → (recordAt t (placeOf c t) .phase ≡ 6 → ⊥) → suitedTo c (recordAt t (placeOf c t)) ≡ true → allowedBy c (recordAt t (placeOf c t)) ≡ true → Done (called c h t time d)
+unfolding asked pick
+done-by c h t time d good room timely carried there live suited allowed =
+    first-answered c h t time d
+    ∙ rw (
+      good,
+      le-leb longest (length d) room,
+      le-leb (h .latest) time timely,
+      carried,
+      lt-ltb (placeOf c t) (length t) there,
+      ne-eqb (recordAt t (placeOf c t) .phase) 6 live,
+      suited,
+      allowed,
+    ) refl

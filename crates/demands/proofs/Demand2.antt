@@ -3,12 +3,12 @@
 use mathlib.Core.Path.{_≡_, refl, sym, ap, subst, _∙_}
 use mathlib.Core.Bool.{Bool, true, false}
 use mathlib.Core.List.{List, [], _∷_}
-use Prim.Native.Nat.{ℕ, zero, suc, _+_, _*_, _%_, _<_}
+use Prim.Native.Nat.{ℕ, zero, suc, _+_, _*_, _%_, _≤_, _<_}
 use native.Mathlib.Omega.{arith}
 use lib.ListN.{length, set, take, getD}
 use lib.Seq.{getD-set-same}
-use lib.Dec.{eqb}
-use borrow.Author.Tests.{eq-eqb, eqb-false, ne-eqb}
+use lib.Dec.{ltb, eqb}
+use borrow.Author.Tests.{eq-eqb, eqb-false, ne-eqb, le-leb, le-ltb, lt-ltb}
 use Rattle.checkword.specs.Bytes.{Bytes}
 use Rattle.telegram.specs.Choice.{pick}
 use Rattle.telegram.specs.Ends.{mirrored}
@@ -19,38 +19,42 @@ use Rattle.telegram.specs.Telegrams.{body, sealed, telegram, request, dataTeleg
 use Rattle.telegram.specs.Writers.Outcome.{wrote}
 use Rattle.telegram.specs.Writers.{refusal, connectAllowed, dataAllowed, disconnectAllowed, writesRequest, writesData, writesIdle, writesDisconnect}
 use Rattle.telegram.specs.Check.{commandOf, checkOf}
+use Rattle.telegram.specs.Layout.{onBus}
 use Rattle.telegram.specs.Facts.{Taken}
 use Rattle.telegram.specs.declared.End.{End}
 use Rattle.telegram.specs.declared.Kind.{Kind}
 use Rattle.telegram.specs.declared.Kind.the-variants as kind
-use Rattle.telegram.specs.declared.Check.the-variants.{Passes}
+use Rattle.telegram.specs.declared.Check.{Check}
+use Rattle.telegram.specs.declared.Check.the-variants.{Passes, Failed, Refused}
 use Rattle.telegram.specs.declared.Written.{Written}
 use Rattle.telegram.proofs.Refusals.{clear, data-command, data-small}
+use Rattle.telegram.proofs.Apart.{passed}
 use Rattle.telegram.proofs.Taken.{data-taken, idle-taken, disconnect-taken}
-use Rattle.link.specs.Records.{endOf, isClosed, become, closedBy}
-use Rattle.link.specs.Times.{watchOver}
-use Rattle.link.specs.Judged.{rowOf, ruled, narrowed, judged, ticked}
-use Rattle.link.specs.Steps.{unlessStep, unlessOut, refusedStep, actOut, next, taken, sent, quietly, writingStep, actOf, declaredBy, sendRefusal, sendOf, sendOut, tickRefusal, tickOf, tickOut, closeRefusal, closeOf, closeOut, receivedRefusal, receivedOf, receivedOut, openRefusal, openOf, openOut}
+use Rattle.link.specs.Records.{endOf, become, closedBy}
+use Rattle.link.specs.Table.{Incorrect-rcv-1st}
+use Rattle.link.specs.Times.{gap, watchOver, idleDue}
+use Rattle.link.specs.Judged.{rowOf, ruled, narrowed, checkedBy, expectedNow, runOut, judged, ticked}
+use Rattle.link.specs.Steps.{neb, unlessStep, unlessOut, refusedStep, actOut, next, taken, sent, quietly, writingStep, actOf, declaredBy, sendRefusal, sendOf, sendOut, tickRefusal, tickOf, tickOut, closeRefusal, closeOf, closeOut, receivedRefusal, receivedOf, receivedOut, openRefusal, openOf, openOut}
 use Rattle.link.specs.Plain.{happened}
 use Rattle.link.specs.declared.Record.{Record}
 use Rattle.link.specs.declared.IdleTime.{IdleTime}
 use Rattle.link.specs.declared.Step.{Step}
 use Rattle.link.specs.declared.Answer.{Answer}
-use Rattle.link.proofs.Answers.{answers}
+use Rattle.link.proofs.Facts.{by-the-table}
 use Rattle.link.specs.declared.Event.{Event}
 use Rattle.link.specs.declared.Event.the-variants as event
 use Rattle.link.specs.declared.Verdict.{Verdict}
 use Rattle.link.specs.declared.Verdict.the-variants.{Nothing, Confirm, Authenticate, Acknowledge, Open as Opens, Data, Idle, SendIdle, Disconnected, Close as Closes}
 use Rattle.node.specs.declared.Head.{Head}
 use Rattle.node.specs.Heads.{at}
-use Rattle.node.specs.Accepted.{nowhere, recordAt}
+use Rattle.node.specs.Accepted.{nowhere, recordAt, accepted}
 use Rattle.node.specs.Matching.{isFor, firstMatch}
 use Rattle.node.specs.Calls.{Call, Left, placeOf, stepOf, stepOut, called}
 use Rattle.node.specs.Calls.Call.{Open, Close, Send, Received, Tick}
 use Rattle.node.proofs.Facts.{by-route, net-data-handed-on, others-unchanged, partners-stay, stays-accepted}
-use Rattle.demands.specs.Pairs.{Mirror, Open-to, telegramOf, routeFrom, Done, Nodes, Connected, Moment, after}
-use Rattle.demands.specs.Demand2.{Comes-up, Closed-alike, Sent-comes-up, Idle-is-taken, Disconnect-closes, textOf, Demand-2-one-step}
-use Rattle.demands.proofs.Carried.{Carried, carried, stepIn}
+use Rattle.demands.specs.Pairs.{Mirror, Open-to, telegramOf, routeFrom, Done, Nodes, Towards, Moment, sent as given, got, after, In-time, Arrives, Nothing-wrong}
+use Rattle.demands.specs.Demand2.{Comes-up, Goes-on, Sent-comes-up, Due, Idle-is-taken, Closed-with, Close-closes, Silence-closes, Incorrect-closes, textOf, Disconnect-closes, Nothing-refused, Demand-2-one-step}
+use Rattle.demands.proofs.Carried.{Carried, carried, stepIn, done-by}
 use Rattle.demands.proofs.Steps.{Writes, writes, taken-in, judged-open}
 
 -- Two nodes by their heads and tables, as the calls take them; the statements put them together.
@@ -58,19 +62,32 @@ record Link (h : Head) (t : List Record) (i : ℕ) (k : Head) (u : List Record) 
   here : i < length t
   there : j < length u
   open-to : Open-to (h .own) (recordAt t i) (k .own) (recordAt u j)
-  open-back : Open-to (k .own) (recordAt u j) (h .own) (recordAt t i)
 
 -- the call with which the partner takes what a call for the record r of the node h wrote
 abbrev arrival : Left → Head → Record → ℕ → IdleTime → List ℕ → Call
 arrival l h r random idle net = Received (routeFrom (h .own) r) random idle (telegramOf l) net
 
 -- a call keeps the node's address
-own-kept : (c : Call) (h : Head) (t : List Record) (time : ℕ) (d : List ℕ) → Done (called c h t time d) → called c h t time d .outcome .head .own ≡ h .own
+pub own-kept : (c : Call) (h : Head) (t : List Record) (time : ℕ) (d : List ℕ) → Done (called c h t time d) → called c h t time d .outcome .head .own ≡ h .own
 unfolding at
 own-kept c h t time d done = ap (λ (y : Head). y .own) (carried c h t time d done .head)
 
-linked : (n : Nodes) (i j : ℕ) → Connected n i j → Link (n .head) (n .table) i (n .head′) (n .table′) j
-linked n i j c = record { here = c .here; there = c .there; open-to = c .open-to; open-back = c .open-back }
+linked : (n : Nodes) (i j : ℕ) → Towards n i j → Link (n .head) (n .table) i (n .head′) (n .table′) j
+linked n i j c = record { here = c .here; there = c .there; open-to = c .open-to }
+
+-- a time that is in time is not over the watch
+pub in-watch : (r : Record) (time : ℕ) → In-time r time → watchOver r time ≡ false
+unfolding watchOver pick
+in-watch r time ok = by (eqb (r .watched) 0) refl
+  where
+    by : (b : Bool) → eqb (r .watched) 0 ≡ b → pick b false (ltb (r .watched) (gap (r .«taken_at») time)) ≡ false
+    by true f = refl
+    by false f = let l = ok (eqb-false (r .watched) 0 f) in le-ltb (r .watched) (gap (r .«taken_at») time) (omega arith)
+
+-- so that an open record's timer has not run out
+open-in-time : (r : Record) (time : ℕ) → r .phase ≡ 5 → In-time r time → runOut r time ≡ false
+unfolding runOut watchOver pick
+open-in-time r time p early = rw p (in-watch r time early)
 
 -- What arrives
 
@@ -83,6 +100,14 @@ for-mirror a b r q m =
       eq-eqb (q .«local_sap») (r .«partner_sap») (ap (λ (e : End). e .«local_sap») m),
       eq-eqb (q .«partner_sap») (r .«local_sap») (ap (λ (e : End). e .«partner_sap») m),
     ) refl
+
+-- a telegram that arrives is not refused where nothing is wrong with the table, the buffer, the time and what is lent
+pub received-done : (a : ℕ) (r : Record) (k : Head) (u : List Record) (j at random : ℕ) (i : IdleTime) (x net e : List ℕ) → accepted k u ≡ true → 244 ≤ length e → k .latest ≤ at
+    → onBus (length x) ≡ true → Mirror a r (k .own) (recordAt u j) → j < length u → (recordAt u j .phase ≡ 6 → ⊥)
+    → connectAllowed (declaredBy i) (length net) (recordAt u j .level) ≡ true → Done (called (Received (routeFrom a r) random i x net) k u at e)
+received-done a r k u j at random i x net e good room timely carried m l live allowed =
+    let p : firstMatch (routeFrom a r) u ≡ j = by-route .only (routeFrom a r) k u j good l (for-mirror a (k .own) r (recordAt u j) m) in
+    done-by (Received (routeFrom a r) random i x net) k u at e good room timely carried (rw p l) (rw p live) refl (rw p allowed)
 
 module _ (a : ℕ) (r : Record) (k : Head) (u : List Record) (j at random : ℕ) (i : IdleTime) (x net e : List ℕ) where
   abbrev taking : Call
@@ -159,6 +184,34 @@ still-back : (a b time at : ℕ) (r q : Record) → Open-to b q a r → Open-to 
 unfolding sent taken become endOf
 still-back a b time at r q o = record { ends = o .ends; open-here = refl; open-there = refl; number = o .number }
 
+-- what a telegram that was sent and taken leaves of the two records
+record Moved (t t′ : List Record) (i time : ℕ) (u u′ : List Record) (j at : ℕ) : Type 0 where
+  here : i < length t′
+  there : j < length u′
+  left : recordAt t′ i ≡ sent (recordAt t i) time
+  taken-is : recordAt u′ j ≡ taken (recordAt u j) at
+
+-- and so of the nodes, under the heads that come back
+goes-on : (n : Nodes) (i j : ℕ) (c : Call) (m : Moment) → Towards n i j → Done (given n c m) → Done (got n i c m)
+    → Moved (n .table) (given n c m .table) i (m .time) (n .table′) (got n i c m .table) j (m .at) → Goes-on n (after n i c m) i j
+goes-on n i j c m link done took moved =
+    let own = own-kept c (n .head) (n .table) (m .time) (m .out) done in
+    let own′ = own-kept _ (n .head′) (n .table′) (m .at) (m .back) took in
+    record {
+      towards =
+          record {
+            here = moved .here;
+            there = moved .there;
+            open-to = rw (own, own′, moved .left, moved .taken-is) (still-open (n .head .own) (n .head′ .own) (m .time) (m .at) (recordAt (n .table) i) (recordAt (n .table′) j) (link .open-to));
+          };
+      back = λ b.
+          record {
+            here = moved .there;
+            there = moved .here;
+            open-to = rw (own, own′, moved .left, moved .taken-is) (still-back (n .head .own) (n .head′ .own) (m .time) (m .at) (recordAt (n .table) i) (recordAt (n .table′) j) (b .open-to));
+          };
+    }
+
 -- What send writes
 
 -- the command's low six bits read back
@@ -187,8 +240,7 @@ module _ (h k : Head) (t u : List Record) (i j low time at random : ℕ) (idle-t
   unfolding sendOf sendOut writesData
   send-writes c = writes (sendRefusal r (h .own) low net d) (refusal end (length d) (dataAllowed low (length net) (end .level))) x d r (sent r time) 7 event.Nothing (c .number)
 
-  module _ (bytes : Bytes net) (link : Link h t i k u j) (watch : watchOver (recordAt u j) at ≡ false) (done : Done l)
-      (got : Done (called (arrival l h r random idle-time spare) k u at e)) where
+  module _ (bytes : Bytes net) (done : Done l) where
     c : Carried (Send i low net) h t time d
     c = carried (Send i low net) h t time d done
 
@@ -204,49 +256,37 @@ module _ (h k : Head) (t u : List Record) (i j low time at random : ℕ) (idle-t
         let ok = clear end (length d) 0 (dataAllowed low (length net) (end .level)) (sym (send-writes c .none)) refl in
         ap lowOf is ∙ low-back (end .level) (r .sending) low end net (data-small low (data-command low (length net) (end .level) (ok .2)) .1)
 
-    there : There k u j (arrival l h r random idle-time spare) at e (actOf Data (recordAt u j) (k .own) at random (declaredBy idle-time) (telegramOf l) spare e)
-    there = taken-there l h k t u i j at random idle-time spare e kind.Data [] net link watch is-taken got
+    module _ (link : Link h t i k u j) (watch : watchOver (recordAt u j) at ≡ false) (got : Done (called (arrival l h r random idle-time spare) k u at e)) where
+      there : There k u j (arrival l h r random idle-time spare) at e (actOf Data (recordAt u j) (k .own) at random (declaredBy idle-time) (telegramOf l) spare e)
+      there = taken-there l h k t u i j at random idle-time spare e kind.Data [] net link watch is-taken got
 
-    up : Comes-up low net (telegramOf l) (called (arrival l h r random idle-time spare) k u at e .outcome .event)
-    unfolding quietly
-    up =
-        let two : happened (called (arrival l h r random idle-time spare) k u at e .outcome .event) .event ≡ 2 = ap (λ (y : Event). happened y .event) (there .event) in
-        record {
-          data-event = two;
-          command = ap (λ (y : Event). happened y .command) (there .event) ∙ low-is;
-          net-data = net-data-handed-on (routeFrom (h .own) r) random idle-time (telegramOf l) spare k u at e two ∙ is-taken .net-data;
-        }
+      up : Comes-up low net (telegramOf l) (called (arrival l h r random idle-time spare) k u at e .outcome .event)
+      unfolding quietly
+      up =
+          let two : happened (called (arrival l h r random idle-time spare) k u at e .outcome .event) .event ≡ 2 = ap (λ (y : Event). happened y .event) (there .event) in
+          record {
+            data-event = two;
+            command = ap (λ (y : Event). happened y .command) (there .event) ∙ low-is;
+            net-data = net-data-handed-on (routeFrom (h .own) r) random idle-time (telegramOf l) spare k u at e two ∙ is-taken .net-data;
+          }
 
-    again : Link h (l .table) i k (called (arrival l h r random idle-time spare) k u at e .table) j
-    unfolding quietly
-    again =
-        record {
-          here = rw (others-unchanged .count (Send i low net) h t time d) (link .here);
-          there = there .count;
-          open-to = rw (left-by (Send i low net) h t time d c, send-writes c .left, there .table) (still-open (h .own) (k .own) time at r (recordAt u j) (link .open-to));
-          open-back = rw (left-by (Send i low net) h t time d c, send-writes c .left, there .table) (still-back (h .own) (k .own) time at r (recordAt u j) (link .open-back));
-        }
-
--- connected under the heads that come back
-connects : (n : Nodes) (i j : ℕ) (c : Call) (m : Moment) → Done (called c (n .head) (n .table) (m .time) (m .out))
-    → Done (called (arrival (called c (n .head) (n .table) (m .time) (m .out)) (n .head) (recordAt (n .table) i) (m .random) (m .idle-time) (m .spare)) (n .head′) (n .table′) (m .at) (m .back))
-    → Link (n .head) (called c (n .head) (n .table) (m .time) (m .out) .table) i (n .head′)
-    (called (arrival (called c (n .head) (n .table) (m .time) (m .out)) (n .head) (recordAt (n .table) i) (m .random) (m .idle-time) (m .spare)) (n .head′) (n .table′) (m .at) (m .back) .table) j
-    → Connected (after n i c m) i j
-connects n i j c m done taken l =
-    record {
-      here = l .here;
-      there = l .there;
-      open-to = rw (own-kept c (n .head) (n .table) (m .time) (m .out) done, own-kept _ (n .head′) (n .table′) (m .at) (m .back) taken) (l .open-to);
-      open-back = rw (own-kept c (n .head) (n .table) (m .time) (m .out) done, own-kept _ (n .head′) (n .table′) (m .at) (m .back) taken) (l .open-back);
-    }
+      moved : Moved t (l .table) i time u (called (arrival l h r random idle-time spare) k u at e .table) j at
+      unfolding quietly
+      moved =
+          record {
+            here = rw (others-unchanged .count (Send i low net) h t time d) (link .here);
+            there = there .count;
+            left = left-by (Send i low net) h t time d c ∙ send-writes c .left;
+            taken-is = there .table;
+          }
 
 pub sent-comes-up : Sent-comes-up
-sent-comes-up n i j low net m bytes link ok = (
-  up (n .head) (n .head′) (n .table) (n .table′) i j low (m .time) (m .at) (m .random) (m .idle-time) net (m .spare) (m .out) (m .back) bytes (linked n i j link) (ok .in-time) (ok .done) (ok .taken),
-  connects n i j (Send i low net) m (ok .done) (ok .taken)
-      (again (n .head) (n .head′) (n .table) (n .table′) i j low (m .time) (m .at) (m .random) (m .idle-time) net (m .spare) (m .out) (m .back) bytes (linked n i j link) (ok .in-time) (ok .done) (ok .taken)),
-)
+sent-comes-up n i j low net m bytes link ok =
+    let watch = in-watch (recordAt (n .table′) j) (m .at) (ok .in-time) in (
+      up (n .head) (n .head′) (n .table) (n .table′) i j low (m .time) (m .at) (m .random) (m .idle-time) net (m .spare) (m .out) (m .back) bytes (ok .done) (linked n i j link) watch (ok .taken),
+      goes-on n i j (Send i low net) m link (ok .done) (ok .taken)
+          (moved (n .head) (n .head′) (n .table) (n .table′) i j low (m .time) (m .at) (m .random) (m .idle-time) net (m .spare) (m .out) (m .back) bytes (ok .done) (linked n i j link) watch (ok .taken)),
+    )
 
 -- Which telegram a verdict writes
 
@@ -286,25 +326,14 @@ act-telegram SendIdle r own time random declared t net d z = writing-telegram _ 
 act-telegram Disconnected r own time random declared t net d z = refl
 act-telegram (Closes reason last) r own time random declared t net d z = writing-telegram _ r _ 5 _ z
 
-only-idle : (v : Verdict) → numberOf v ≡ 6 → v ≡ SendIdle
-only-idle Nothing e = absurd (omega arith)
-only-idle Confirm e = absurd (omega arith)
-only-idle Authenticate e = absurd (omega arith)
-only-idle Acknowledge e = absurd (omega arith)
-only-idle Opens e = absurd (omega arith)
-only-idle Data e = absurd (omega arith)
-only-idle Idle e = absurd (omega arith)
-only-idle SendIdle e = refl
-only-idle Disconnected e = absurd (omega arith)
-only-idle (Closes reason last) e = absurd (omega arith)
-
--- a tick that was done acts by its verdict
-tick-acts : (r : Record) (own time : ℕ) (d : List ℕ) → tickOf r own time d .answer .number ≡ 0
-    → (tickOf r own time d ≡ actOf (ticked r time) r own time 0 0 [] [] d) × (tickOut r own time d ≡ actOut (ticked r time) r own 0 0 [] [] d)
-unfolding tickOf tickOut pick
-tick-acts r own time d z = let f = eq-eqb (tickRefusal r own d) 0 (sym (answers .by-tick r own time d) ∙ z) in (rw f refl, rw f refl)
-
 -- What tick writes
+
+-- where idle is due
+due-sends : (r : Record) (time : ℕ) → r .phase ≡ 5 → Due r time → ticked r time ≡ SendIdle
+unfolding idleDue pick
+due-sends r time p due =
+    by-the-table .due r time p (open-in-time r time p (due .in-time))
+    (rw (ne-eqb (r .declared) 0 (due .declares)) (le-leb (r .declared) (2 * gap (r .«sent_at») time) (let h = due .half in omega arith)))
 
 module _ (h k : Head) (t u : List Record) (i j time at random : ℕ) (idle-time : IdleTime) (spare d e : List ℕ) where
   abbrev rᵢ : Record
@@ -316,16 +345,9 @@ module _ (h k : Head) (t u : List Record) (i j time at random : ℕ) (idle-time 
   abbrev lᵢ : Left
   lᵢ = called (Tick i) h t time d
 
-  module _ (done : Done lᵢ) (idles : lᵢ .outcome .answer .telegram ≡ 6) where
+  module _ (done : Done lᵢ) (verdict : ticked rᵢ time ≡ SendIdle) where
     cᵢ : Carried (Tick i) h t time d
     cᵢ = carried (Tick i) h t time d done
-
-    verdict : ticked rᵢ time ≡ SendIdle
-    verdict =
-        let g = tick-acts rᵢ (h .own) time d (cᵢ .number) in
-        only-idle (ticked rᵢ time)
-        (sym (act-telegram (ticked rᵢ time) rᵢ (h .own) time 0 0 [] [] d (ap (λ (y : Step). y .answer .number) (sym (g .0)) ∙ cᵢ .number))
-        ∙ ap (λ (y : Step). y .answer .telegram) (sym (g .0)) ∙ ap (λ (y : Answer). y .telegram) (sym (cᵢ .answer)) ∙ idles)
 
     idle-writes : Writes (idle endᵢ (rᵢ .sending)) d (sent rᵢ time) 6 event.Nothing (refusal endᵢ (length d) true) (tickOf rᵢ (h .own) time d) (tickOut rᵢ (h .own) time d)
     unfolding tickOf tickOut writesIdle
@@ -338,26 +360,34 @@ module _ (h k : Head) (t u : List Record) (i j time at random : ℕ) (idle-time 
     unfolding writesIdle
     is-takenᵢ = subst (λ (y : List ℕ). Taken endᵢ (rᵢ .sending) y kind.Idle [] []) (sym isᵢ) (idle-taken endᵢ (rᵢ .sending) d (idle endᵢ (rᵢ .sending)) (idle-writes .written))
 
-    idle-there : (link : Link h t i k u j) → watchOver (recordAt u j) at ≡ false → Done (called (arrival lᵢ h rᵢ random idle-time spare) k u at e)
-        → There k u j (arrival lᵢ h rᵢ random idle-time spare) at e (actOf Idle (recordAt u j) (k .own) at random (declaredBy idle-time) (telegramOf lᵢ) spare e)
-    idle-there link watch got = taken-there lᵢ h k t u i j at random idle-time spare e kind.Idle [] [] link watch is-takenᵢ got
+    module _ (link : Link h t i k u j) (watch : watchOver (recordAt u j) at ≡ false) (got : Done (called (arrival lᵢ h rᵢ random idle-time spare) k u at e)) where
+      idle-there : There k u j (arrival lᵢ h rᵢ random idle-time spare) at e (actOf Idle (recordAt u j) (k .own) at random (declaredBy idle-time) (telegramOf lᵢ) spare e)
+      idle-there = taken-there lᵢ h k t u i j at random idle-time spare e kind.Idle [] [] link watch is-takenᵢ got
+
+      movedᵢ : Moved t (lᵢ .table) i time u (called (arrival lᵢ h rᵢ random idle-time spare) k u at e .table) j at
+      unfolding quietly
+      movedᵢ =
+          record {
+            here = rw (others-unchanged .count (Tick i) h t time d) (link .here);
+            there = idle-there .count;
+            left = left-by (Tick i) h t time d cᵢ ∙ idle-writes .left;
+            taken-is = idle-there .table;
+          }
 
 pub idle-is-taken : Idle-is-taken
 unfolding quietly
-idle-is-taken n i j m link ok idles =
+idle-is-taken n i j m link due ok =
+    let verdict = due-sends (recordAt (n .table) i) (m .time) (link .open-to .open-here) due in
+    let watch = in-watch (recordAt (n .table′) j) (m .at) (ok .in-time) in
     let there =
-    idle-there (n .head) (n .head′) (n .table) (n .table′) i j (m .time) (m .at) (m .random) (m .idle-time) (m .spare) (m .out) (m .back) (ok .done) idles (linked n i j link) (ok .in-time) (ok .taken) in
-    let left =
-    left-by (Tick i) (n .head) (n .table) (m .time) (m .out) (carried (Tick i) (n .head) (n .table) (m .time) (m .out) (ok .done))
-    ∙ idle-writes (n .head) (n .head′) (n .table) (n .table′) i j (m .time) (m .at) (m .random) (m .idle-time) (m .spare) (m .out) (m .back) (ok .done) idles .left in (
-      ap (λ (y : Event). happened y .event) (there .event),
-      connects n i j (Tick i) m (ok .done) (ok .taken)
-          (record {
-            here = rw (others-unchanged .count (Tick i) (n .head) (n .table) (m .time) (m .out)) (link .here);
-            there = there .count;
-            open-to = rw (left, there .table) (still-open (n .head .own) (n .head′ .own) (m .time) (m .at) (recordAt (n .table) i) (recordAt (n .table′) j) (link .open-to));
-            open-back = rw (left, there .table) (still-back (n .head .own) (n .head′ .own) (m .time) (m .at) (recordAt (n .table) i) (recordAt (n .table′) j) (link .open-back));
-          }),
+    idle-there (n .head) (n .head′) (n .table) (n .table′) i j (m .time) (m .at) (m .random) (m .idle-time) (m .spare) (m .out) (m .back) (ok .done) verdict (linked n i j link) watch (ok .taken) in
+    let wrote-it = idle-writes (n .head) (n .head′) (n .table) (n .table′) i j (m .time) (m .at) (m .random) (m .idle-time) (m .spare) (m .out) (m .back) (ok .done) verdict in (
+      ap (λ (y : Answer). y .telegram) (carried (Tick i) (n .head) (n .table) (m .time) (m .out) (ok .done) .answer) ∙ wrote-it .telegram,
+      (
+        ap (λ (y : Event). happened y .event) (there .event),
+        goes-on n i j (Tick i) m link (ok .done) (ok .taken)
+            (movedᵢ (n .head) (n .head′) (n .table) (n .table′) i j (m .time) (m .at) (m .random) (m .idle-time) (m .spare) (m .out) (m .back) (ok .done) verdict (linked n i j link) watch (ok .taken)),
+      ),
     )
 
 -- What a closing writes
@@ -374,115 +404,232 @@ only-close SendIdle e = absurd (omega arith)
 only-close Disconnected e = absurd (omega arith)
 only-close (Closes reason last) e = (reason, (last, refl))
 
--- a step that wrote a disconnect: its telegram, and the event that it names
-record Disconnects (r : Record) (own : ℕ) (d : List ℕ) (s : Step) (out : List ℕ) : Type 0 where
-  type : ℕ
-  reason : ℕ
-  text : List ℕ
-  bytes : Bytes text
-  written : writesDisconnect (endOf r own) (r .sending) type reason text d ≡ wrote (disconnect (endOf r own) (r .sending) type reason text)
-  event : s .event ≡ event.Closed reason (eqb type 0)
-  left : s .«record» ≡ closedBy (eqb type 0) r
-  telegram : take (s .answer .length) out ≡ disconnect (endOf r own) (r .sending) type reason text
+-- a step that wrote a disconnect: its telegram, and the reason and type that it names
+pub record Disconnects (r : Record) (own : ℕ) (d : List ℕ) (s : Step) (out : List ℕ) (reason : ℕ) (last : Bool) : Type 0 where
+  pub type : ℕ
+  pub text : List ℕ
+  pub bytes : Bytes text
+  pub finally : eqb type 0 ≡ last
+  pub written : writesDisconnect (endOf r own) (r .sending) type reason text d ≡ wrote (disconnect (endOf r own) (r .sending) type reason text)
+  pub five : s .answer .telegram ≡ 5
+  pub event : s .event ≡ event.Closed reason last
+  pub left : s .«record» ≡ closedBy last r
+  pub telegram : take (s .answer .length) out ≡ disconnect (endOf r own) (r .sending) type reason text
 
 by-type : (last : Bool) → eqb (pick last 0 1) 0 ≡ last
 unfolding pick
 by-type true = refl
 by-type false = refl
 
--- of a verdict: only a closing writes one
-act-disconnects : (n : ℕ) (v : Verdict) (r : Record) (own time random declared : ℕ) (t net d : List ℕ)
+-- what closes: a watch that has run out, and a telegram that fails the check
+silent-tick : (r : Record) (time : ℕ) → r .phase ≡ 5 → (r .watched ≡ 0 → ⊥) → r .«taken_at» + r .watched < time → ticked r time ≡ Closes 0x05 false
+unfolding runOut watchOver pick
+silent-tick r time p some over =
+    by-the-table .silent r 0 time [] p (rw p (rw (ne-eqb (r .watched) 0 some) (lt-ltb (r .watched) (gap (r .«taken_at») time) (omega arith)))) .1
+
+open-expects : (r : Record) → r .phase ≡ 5 → expectedNow r ≡ r .expected
+unfolding expectedNow pick
+open-expects r p = rw p refl
+
+pub failing-closes : (r : Record) (own time : ℕ) (t : List ℕ) → r .phase ≡ 5 → In-time r time → (checkOf (endOf r own) (r .expected) t ≡ Passes → ⊥)
+    → judged r own time t ≡ Closes 0x06 false
+unfolding judged pick
+failing-closes r own time t p early fails = rw (open-in-time r time p early, open-expects r p) (by (checkOf (endOf r own) (r .expected) t) refl)
+  where
+    by : (c : Check) → checkOf (endOf r own) (r .expected) t ≡ c → checkedBy c r t ≡ Closes 0x06 false
+    by Passes e = absurd (fails e)
+    by (Failed c) e = ap (ruled Incorrect-rcv-1st) p
+    by (Refused n) e = ap (ruled Incorrect-rcv-1st) p
+
+-- by a verdict ..
+pub act-closes : (n reason : ℕ) (last : Bool) (r : Record) (own time random declared : ℕ) (t net d : List ℕ)
+    → unlessStep n r (actOf (Closes reason last) r own time random declared t net d) .answer .number ≡ 0
+    → Disconnects r own d (unlessStep n r (actOf (Closes reason last) r own time random declared t net d)) (unlessOut n d (actOut (Closes reason last) r own random declared t net d)) reason last
+unfolding writesDisconnect
+act-closes n reason last r own time random declared t net d z =
+    let w =
+    writes n (refusal (endOf r own) (length d) (disconnectAllowed (pick last 0 1) reason 0 (endOf r own .level))) (disconnect (endOf r own) (r .sending) (pick last 0 1) reason []) d r
+    (closedBy last r) 5 (event.Closed reason last) z in
+    record { type = pick last 0 1; text = []; bytes = tt; finally = by-type last; written = w .written; five = w .telegram; event = w .event; left = w .left; telegram = w .bytes }
+
+-- .. which is the only one that writes a disconnect
+record Closing (r : Record) (own : ℕ) (d : List ℕ) (s : Step) (out : List ℕ) : Type 0 where
+  reason : ℕ
+  last : Bool
+  disconnects : Disconnects r own d s out reason last
+
+act-closing : (n : ℕ) (v : Verdict) (r : Record) (own time random declared : ℕ) (t net d : List ℕ)
     → unlessStep n r (actOf v r own time random declared t net d) .answer .number ≡ 0 → unlessStep n r (actOf v r own time random declared t net d) .answer .telegram ≡ 5
-    → Disconnects r own d (unlessStep n r (actOf v r own time random declared t net d)) (unlessOut n d (actOut v r own random declared t net d))
-unfolding pick refusedStep writesDisconnect
-act-disconnects zero v r own time random declared t net d z five = by v (only-close v (sym (act-telegram v r own time random declared t net d z) ∙ five)) z
+    → Closing r own d (unlessStep n r (actOf v r own time random declared t net d)) (unlessOut n d (actOut v r own random declared t net d))
+unfolding pick refusedStep
+act-closing zero v r own time random declared t net d z five = by v (only-close v (sym (act-telegram v r own time random declared t net d z) ∙ five)) z
   where
     by : (v : Verdict) → (reason : ℕ) × ((last : Bool) × (v ≡ Closes reason last)) → actOf v r own time random declared t net d .answer .number ≡ 0
-        → Disconnects r own d (actOf v r own time random declared t net d) (actOut v r own random declared t net d)
-    by v (reason, (last, f)) z =
-        rw f
-        (let w =
-        writes 0 (refusal (endOf r own) (length d) (disconnectAllowed (pick last 0 1) reason 0 (endOf r own .level))) (disconnect (endOf r own) (r .sending) (pick last 0 1) reason []) d r
-        (closedBy last r) 5 (event.Closed reason last) (rw f at z) in
-        record {
-          type = pick last 0 1;
-          reason = reason;
-          text = [];
-          bytes = tt;
-          written = w .written;
-          event = w .event ∙ ap (event.Closed reason) (sym (by-type last));
-          left = w .left ∙ ap (λ (b : Bool). closedBy b r) (sym (by-type last));
-          telegram = w .bytes;
-        })
-act-disconnects (suc n) v r own time random declared t net d z five =
+        → Closing r own d (actOf v r own time random declared t net d) (actOut v r own random declared t net d)
+    by v (reason, (last, f)) z = rw f (record { reason = reason; last = last; disconnects = act-closes 0 reason last r own time random declared t net d (rw f at z) })
+act-closing (suc n) v r own time random declared t net d z five =
     let f = ne-eqb (suc n) 0 (λ y. omega arith) in let y : suc n ≡ 0 = (rw f at z) in absurd (omega arith)
 
+-- by close
+close-closes-step : (place type reason : ℕ) (text : List ℕ) (r : Record) (own time : ℕ) (d : List ℕ) → Bytes text → stepOf (Close place type reason text) r own time d .answer .number ≡ 0
+    → Disconnects r own d (stepOf (Close place type reason text) r own time d) (stepOut (Close place type reason text) r own time d) reason (eqb type 0)
+unfolding closeOf closeOut writesDisconnect
+close-closes-step place type reason text r own time d bytes z =
+    let w =
+    writes (closeRefusal r own type reason text d) (refusal (endOf r own) (length d) (disconnectAllowed type reason (length text) (endOf r own .level)))
+    (disconnect (endOf r own) (r .sending) type reason text) d r (closedBy (eqb type 0) r) 5 (event.Closed reason (eqb type 0)) z in
+    record { type = type; text = text; bytes = bytes; finally = refl; written = w .written; five = w .telegram; event = w .event; left = w .left; telegram = w .bytes }
+
+-- by any call
 disconnecting : (c : Call) (r : Record) (own time : ℕ) (d : List ℕ) → Bytes (textOf c) → stepOf c r own time d .answer .number ≡ 0 → stepOf c r own time d .answer .telegram ≡ 5
-    → Disconnects r own d (stepOf c r own time d) (stepOut c r own time d)
-unfolding openOf openOut sendOf sendOut closeOf closeOut receivedOf receivedOut tickOf tickOut writesRequest writesData writesDisconnect
+    → Closing r own d (stepOf c r own time d) (stepOut c r own time d)
+unfolding openOf openOut sendOf sendOut receivedOf receivedOut tickOf tickOut writesRequest writesData
 disconnecting (Open place random i net) r own time d bytes z five =
     let w =
     writes (openRefusal r own i net d) (refusal (endOf r own) (length d) (connectAllowed (declaredBy i) (length net) (endOf r own .level))) (request (endOf r own) random (declaredBy i) net) d r
     (become r 2 (next random) 0 (declaredBy i) 0 time 0) 1 event.Nothing z in
     let y : _≡_ {A = ℕ} 1 5 = sym (w .telegram) ∙ five in absurd (omega arith)
 disconnecting (Close place type reason text) r own time d bytes z five =
-    let w =
-    writes (closeRefusal r own type reason text d) (refusal (endOf r own) (length d) (disconnectAllowed type reason (length text) (endOf r own .level)))
-    (disconnect (endOf r own) (r .sending) type reason text) d r (closedBy (eqb type 0) r) 5 (event.Closed reason (eqb type 0)) z in
-    record { type = type; reason = reason; text = text; bytes = bytes; written = w .written; event = w .event; left = w .left; telegram = w .bytes }
+    record { reason = reason; last = eqb type 0; disconnects = close-closes-step place type reason text r own time d bytes z }
 disconnecting (Send place low net) r own time d bytes z five =
     let w =
     writes (sendRefusal r own low net d) (refusal (endOf r own) (length d) (dataAllowed low (length net) (endOf r own .level))) (dataTelegram (endOf r own) (r .sending) low net) d r (sent r time) 7
     event.Nothing z in
     let y : _≡_ {A = ℕ} 7 5 = sym (w .telegram) ∙ five in absurd (omega arith)
 disconnecting (Received w random i telegram net) r own time d bytes z five =
-    act-disconnects (receivedRefusal r own i telegram net d) (judged r own time telegram) r own time random (declaredBy i) telegram net d z five
-disconnecting (Tick place) r own time d bytes z five = act-disconnects (tickRefusal r own d) (ticked r time) r own time 0 0 [] [] d z five
+    act-closing (receivedRefusal r own i telegram net d) (judged r own time telegram) r own time random (declaredBy i) telegram net d z five
+disconnecting (Tick place) r own time d bytes z five = act-closing (tickRefusal r own d) (ticked r time) r own time 0 0 [] [] d z five
 
--- what closing leaves of the phase
-phase-alike : (last : Bool) (q r : Record) → closedBy last q .phase ≡ closedBy last r .phase
+-- What it does to both ends
+
+phase-by : (last : Bool) (r : Record) → closedBy last r .phase ≡ pick last 6 1
 unfolding closedBy become
-phase-alike last q r = refl
+phase-by last r = refl
 
-phase-closed : (last : Bool) (r : Record) → isClosed (closedBy last r .phase) ≡ true
-unfolding closedBy become isClosed pick
-phase-closed true r = refl
-phase-closed false r = refl
+module _ (n : Nodes) (i j : ℕ) (c : Call) (m : Moment) (place : placeOf c (n .table) ≡ i) where
+  abbrev r₅ : Record
+  r₅ = recordAt (n .table) (placeOf c (n .table))
 
-closes : (c : Call) (h k : Head) (t u : List Record) (i j time at random : ℕ) (idle : IdleTime) (spare d e : List ℕ) → placeOf c t ≡ i → Bytes (textOf c) → Link h t i k u j
-    → watchOver (recordAt u j) at ≡ false → Done (called c h t time d) → called c h t time d .outcome .answer .telegram ≡ 5
-    → Done (called (arrival (called c h t time d) h (recordAt t i) random idle spare) k u at e)
-    → Closed-alike (called c h t time d) (called (arrival (called c h t time d) h (recordAt t i) random idle spare) k u at e) i j
-unfolding quietly
-closes c h k t u i j time at random idle-time spare d e place bytes link watch done five got =
-    let g = carried c h t time d done in let r = recordAt t i in let x = telegramOf (called c h t time d) in
-    let s = disconnecting c (recordAt t (placeOf c t)) (h .own) time d bytes (g .number) (ap (λ (y : Answer). y .telegram) (sym (g .answer)) ∙ five) in
-    let is : x ≡ disconnect (endOf (recordAt t (placeOf c t)) (h .own)) (recordAt t (placeOf c t) .sending) (s .type) (s .reason) (s .text) = told-by c h t time d _ g (s .telegram) in
-    let at-place = disconnect-taken (endOf (recordAt t (placeOf c t)) (h .own)) (recordAt t (placeOf c t) .sending) (s .type) (s .reason) (s .text) d _ (s .bytes) (s .written) in
-    let y : Taken (endOf r (h .own)) (r .sending) x kind.Disconnect (s .type ∷ s .reason ∷ []) (s .text) =
-    subst (λ (m : ℕ). Taken (endOf (recordAt t m) (h .own)) (recordAt t m .sending) x kind.Disconnect (s .type ∷ s .reason ∷ []) (s .text)) place
-    (subst (λ (z : List ℕ). Taken (endOf (recordAt t (placeOf c t)) (h .own)) (recordAt t (placeOf c t) .sending) z kind.Disconnect (s .type ∷ s .reason ∷ []) (s .text)) (sym is) at-place) in
-    let there = taken-there (called c h t time d) h k t u i j at random idle-time spare e kind.Disconnect (s .type ∷ s .reason ∷ []) (s .text) link watch y got in
-    let here : recordAt (called c h t time d .table) i ≡ closedBy (eqb (s .type) 0) (recordAt t (placeOf c t)) =
-    subst (λ (m : ℕ). recordAt (called c h t time d .table) m ≡ closedBy (eqb (s .type) 0) (recordAt t (placeOf c t))) place (left-by c h t time d g ∙ s .left) in
-    record {
-      same-event = there .event ∙ ap (λ (vs : List ℕ). event.Closed (getD vs 1 0) (eqb (getD vs 0 0) 0)) (y .fields) ∙ sym (s .event) ∙ sym (g .event);
-      same-phase =
-          ap (λ (z : Record). z .phase) (there .table ∙ ap (λ (vs : List ℕ). closedBy (eqb (getD vs 0 0) 0) (recordAt u j)) (y .fields)) ∙ phase-alike (eqb (s .type) 0) (recordAt u j) (recordAt t (placeOf c t))
-          ∙ ap (λ (z : Record). z .phase) (sym here);
-      closed = ap (λ (z : Record). isClosed (z .phase)) here ∙ phase-closed (eqb (s .type) 0) (recordAt t (placeOf c t));
-    }
+  abbrev Wrote-one : ℕ → Bool → Type 0
+  Wrote-one reason last =
+      Disconnects r₅ (n .head .own) (m .out) (stepIn c (n .head) (n .table) (m .time) (m .out)) (stepOut c r₅ (n .head .own) (m .time) (m .out)) reason last
+
+  -- the telegram is taken by the mirrored end
+  module _ (reason : ℕ) (last : Bool) (g : Carried c (n .head) (n .table) (m .time) (m .out)) (s : Wrote-one reason last) where
+    is-taken₅ : Taken (endOf (recordAt (n .table) i) (n .head .own)) (recordAt (n .table) i .sending) (telegramOf (given n c m)) kind.Disconnect (s .type ∷ reason ∷ []) (s .text)
+    is-taken₅ =
+        subst (λ (y : ℕ). Taken (endOf (recordAt (n .table) y) (n .head .own)) (recordAt (n .table) y .sending) (telegramOf (given n c m)) kind.Disconnect (s .type ∷ reason ∷ []) (s .text)) place
+        (subst (λ (z : List ℕ). Taken (endOf r₅ (n .head .own)) (r₅ .sending) z kind.Disconnect (s .type ∷ reason ∷ []) (s .text))
+        (sym (told-by c (n .head) (n .table) (m .time) (m .out) _ g (s .telegram)))
+        (disconnect-taken (endOf r₅ (n .head .own)) (r₅ .sending) (s .type) reason (s .text) (m .out) _ (s .bytes) (s .written)))
+
+    closes : Towards n i j → Arrives n i j c m → Closed-with (given n c m) (got n i c m) i j reason last
+    unfolding quietly
+    closes link ok =
+        let q = recordAt (n .table′) j in
+        let there =
+        taken-there (given n c m) (n .head) (n .head′) (n .table) (n .table′) i j (m .at) (m .random) (m .idle-time) (m .spare) (m .back) kind.Disconnect (s .type ∷ reason ∷ []) (s .text)
+        (linked n i j link) (in-watch q (m .at) (ok .in-time)) is-taken₅ (ok .taken) in
+        let here : recordAt (given n c m .table) i ≡ closedBy last r₅ =
+        subst (λ (y : ℕ). recordAt (given n c m .table) y ≡ closedBy last r₅) place (left-by c (n .head) (n .table) (m .time) (m .out) g ∙ s .left) in
+        record {
+          says-here = g .event ∙ s .event;
+          says-there = there .event ∙ ap (λ (vs : List ℕ). event.Closed (getD vs 1 0) (eqb (getD vs 0 0) 0)) (is-taken₅ .fields) ∙ ap (event.Closed reason) (s .finally);
+          phase-here = ap (λ (z : Record). z .phase) here ∙ phase-by last r₅;
+          phase-there =
+              ap (λ (z : Record). z .phase) (there .table ∙ ap (λ (vs : List ℕ). closedBy (eqb (getD vs 0 0) 0) q) (is-taken₅ .fields) ∙ ap (λ (b : Bool). closedBy b q) (s .finally))
+              ∙ phase-by last q;
+        }
+
+pub close-closes : Close-closes
+close-closes n i j type reason text m bytes link ok =
+    let g = carried (Close i type reason text) (n .head) (n .table) (m .time) (m .out) (ok .done) in
+    closes n i j (Close i type reason text) m refl reason (eqb type 0) g (close-closes-step i type reason text (recordAt (n .table) i) (n .head .own) (m .time) (m .out) bytes (g .number)) link ok
+
+pub silence-closes : Silence-closes
+unfolding tickOf tickOut
+silence-closes n i j m link some over ok =
+    let r = recordAt (n .table) i in
+    let g = carried (Tick i) (n .head) (n .table) (m .time) (m .out) (ok .done) in
+    let v : ticked r (m .time) ≡ Closes 0x05 false = silent-tick r (m .time) (link .open-to .open-here) some over in
+    closes n i j (Tick i) m refl 0x05 false g
+    (rw v (act-closes (tickRefusal r (n .head .own) (m .out)) 0x05 false r (n .head .own) (m .time) 0 0 [] [] (m .out) (rw v at (g .number)))) link ok
+
+pub incorrect-closes : Incorrect-closes
+unfolding receivedOf receivedOut
+incorrect-closes n i j random idle-time w telegram net m link place early fails ok =
+    let call = Received w random idle-time telegram net in
+    let r = recordAt (n .table) (firstMatch w (n .table)) in
+    let g = carried call (n .head) (n .table) (m .time) (m .out) (ok .done) in
+    let v : judged r (n .head .own) (m .time) telegram ≡ Closes 0x06 false =
+    subst (λ (y : ℕ). judged (recordAt (n .table) y) (n .head .own) (m .time) telegram ≡ Closes 0x06 false) (sym place)
+    (failing-closes (recordAt (n .table) i) (n .head .own) (m .time) telegram (link .open-to .open-here) early fails) in
+    closes n i j call m place 0x06 false g
+    (rw v
+    (act-closes (receivedRefusal r (n .head .own) idle-time telegram net (m .out)) 0x06 false r (n .head .own) (m .time) random (declaredBy idle-time) telegram net (m .out) (rw v at (g .number)))) link ok
 
 pub disconnect-closes : Disconnect-closes
 disconnect-closes n i j c m place bytes link ok five =
-    closes c (n .head) (n .head′) (n .table) (n .table′) i j (m .time) (m .at) (m .random) (m .idle-time) (m .spare) (m .out) (m .back) place bytes (linked n i j link) (ok .in-time) (ok .done) five
-    (ok .taken)
+    let g = carried c (n .head) (n .table) (m .time) (m .out) (ok .done) in
+    let s =
+    disconnecting c (recordAt (n .table) (placeOf c (n .table))) (n .head .own) (m .time) (m .out) bytes (g .number) (ap (λ (y : Answer). y .telegram) (sym (g .answer)) ∙ five) in
+    (s .reason, (s .last, closes n i j c m place (s .reason) (s .last) g (s .disconnects) link ok))
+
+-- Nothing is refused
+
+-- a telegram that the mirrored end takes
+taken-done : (n : Nodes) (i j : ℕ) (c : Call) (m : Moment) (v : Kind) (vs net : List ℕ) → Towards n i j → Nothing-wrong n j m
+    → Taken (endOf (recordAt (n .table) i) (n .head .own)) (recordAt (n .table) i .sending) (telegramOf (given n c m)) v vs net → Done (got n i c m)
+taken-done n i j c m v vs net link ok y =
+    received-done (n .head .own) (recordAt (n .table) i) (n .head′) (n .table′) j (m .at) (m .random) (m .idle-time) (telegramOf (given n c m)) (m .spare) (m .back) (ok .table-there) (ok .room-there)
+    (ok .time-there) (passed (mirrored (endOf (recordAt (n .table) i) (n .head .own))) (recordAt (n .table) i .sending) (telegramOf (given n c m)) (y .passes) .on-bus) (link .open-to .ends) (link .there)
+    (λ p. let z : _≡_ {A = ℕ} 5 6 = sym (link .open-to .open-there) ∙ p in absurd (omega arith)) (ok .lent)
+
+-- an open record is not finally closed
+open-live : (r : Record) → r .phase ≡ 5 → r .phase ≡ 6 → ⊥
+open-live r p q = let z : _≡_ {A = ℕ} 5 6 = sym p ∙ q in omega arith
+
+-- and can be closed
+open-closes : (r : Record) → r .phase ≡ 5 → neb (r .phase) 1 ≡ true
+unfolding pick
+open-closes r p = ap (λ (y : ℕ). neb y 1) p
+
+pub nothing-refused : Nothing-refused
+nothing-refused =
+    record {
+      by-send = λ n i j low net m bytes link ok fits.
+          let r = recordAt (n .table) i in
+          let p = link .open-to .open-here in
+          let done =
+          done-by (Send i low net) (n .head) (n .table) (m .time) (m .out) (ok .table-here) (ok .room-here) (ok .time-here) refl (link .here) (open-live r p) (eq-eqb (r .phase) 5 p) fits in
+          (done, taken-done n i j (Send i low net) m kind.Data [] net link ok (is-taken (n .head) (n .head′) (n .table) (n .table′) i j low (m .time) (m .at) (m .random) (m .idle-time) net (m .spare) (m .out) (m .back) bytes done));
+      by-tick = λ n i j m link ok due.
+          let r = recordAt (n .table) i in
+          let p = link .open-to .open-here in
+          let done = done-by (Tick i) (n .head) (n .table) (m .time) (m .out) (ok .table-here) (ok .room-here) (ok .time-here) refl (link .here) (open-live r p) refl refl in (
+            done,
+            taken-done n i j (Tick i) m kind.Idle [] [] link ok
+                (is-takenᵢ (n .head) (n .head′) (n .table) (n .table′) i j (m .time) (m .at) (m .random) (m .idle-time) (m .spare) (m .out) (m .back) done (due-sends r (m .time) p due)),
+          );
+      by-close = λ n i j type reason text m bytes link ok fits.
+          let r = recordAt (n .table) i in
+          let p = link .open-to .open-here in
+          let done =
+          done-by (Close i type reason text) (n .head) (n .table) (m .time) (m .out) (ok .table-here) (ok .room-here) (ok .time-here) refl (link .here) (open-live r p) (open-closes r p) fits in
+          let g = carried (Close i type reason text) (n .head) (n .table) (m .time) (m .out) done in
+          let s = close-closes-step i type reason text r (n .head .own) (m .time) (m .out) bytes (g .number) in
+          (done, taken-done n i j (Close i type reason text) m kind.Disconnect (s .type ∷ reason ∷ []) (s .text) link ok (is-taken₅ n i j (Close i type reason text) m refl reason (eqb type 0) g s));
+    }
 
 pub demand-2-one-step : Demand-2-one-step
 demand-2-one-step =
     record {
       sent-comes-up = sent-comes-up;
       idle-is-taken = idle-is-taken;
+      close-closes = close-closes;
+      silence-closes = silence-closes;
+      incorrect-closes = incorrect-closes;
       disconnect-closes = disconnect-closes;
+      nothing-refused = nothing-refused;
       isolation = record { others-unchanged = others-unchanged; partners-stay = partners-stay; stays-accepted = stays-accepted };
     }

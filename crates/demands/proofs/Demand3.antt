@@ -1,8 +1,8 @@
 -- Demand 3: two different records of an accepted table have another partner, since a route that is for both would name both, and then no telegram passes both
 -- checks. What the partner's end writes passes its own record's check, so it passes no other's.
 -- Assumes nothing.
-use mathlib.Core.Path.{_≡_, refl, sym, _∙_}
-use mathlib.Core.Bool.{true}
+use mathlib.Core.Path.{_≡_, refl, sym, subst, _∙_}
+use mathlib.Core.Bool.{true, false}
 use mathlib.Core.List.{List}
 use Prim.Native.Nat.{ℕ}
 use borrow.Author.Tests.{eq-eqb}
@@ -11,16 +11,22 @@ use Rattle.telegram.specs.Facts.{Other-partner}
 use Rattle.telegram.specs.Check.{checkOf}
 use Rattle.telegram.specs.declared.End.{End}
 use Rattle.telegram.specs.declared.Check.the-variants.{Passes}
-use Rattle.telegram.proofs.Apart.{apart-at-4, apart-at-2}
+use Rattle.telegram.proofs.Apart.{level-apart, apart-at-4, apart-at-2, connect-apart, one-number}
 use Rattle.telegram.proofs.Taken.{request-taken, confirm-taken, authentication-taken, acknowledgement-taken, disconnect-taken, idle-taken, data-taken}
 use Rattle.link.specs.Records.{endOf}
+use Rattle.link.specs.Judged.{judged}
+use Rattle.link.specs.Steps.{declaredBy, receivedRefusal, receivedOf}
 use Rattle.link.specs.declared.Record.{Record}
+use Rattle.link.specs.declared.Verdict.the-variants.{Close as Closes}
 use Rattle.node.specs.declared.Head.{Head}
 use Rattle.node.specs.declared.Route.{Route}
 use Rattle.node.specs.Accepted.{recordAt}
-use Rattle.node.specs.Matching.{isFor}
+use Rattle.node.specs.Matching.{isFor, firstMatch}
+use Rattle.node.specs.Calls.Call.{Received}
 use Rattle.node.proofs.Facts.{by-route}
-use Rattle.demands.specs.Demand3.{Two, endAt, Wrote, Demand-3}
+use Rattle.demands.specs.Demand3.{Two, endAt, No-telegram-for-two-levels, No-telegram-for-two-at-4, No-telegram-for-two-at-2, No-connect-for-two, Wrote, Cards-exchanged, Cards-exchanged-closes, Demand-3}
+use Rattle.demands.proofs.Carried.{carried}
+use Rattle.demands.proofs.Demand2.{failing-closes, act-closes}
 use Rattle.demands.specs.Demand3.Wrote.{request, confirm, authentication, acknowledgement, disconnect, idle, data-telegram}
 
 -- the route of a record
@@ -30,9 +36,9 @@ routeOf r = record { sender = r .partner; «destination_sap» = r .«local_sap»
 is-for : (r q : Record) → q .partner ≡ r .partner → q .«local_sap» ≡ r .«local_sap» → q .«partner_sap» ≡ r .«partner_sap» → isFor (routeOf r) q ≡ true
 is-for r q p l s = rw (eq-eqb _ _ p, eq-eqb _ _ l, eq-eqb _ _ s) refl
 
-other-partner : (h : Head) (t : List Record) (i j level : ℕ) → Two h t i j level → Other-partner (endAt h t i) (endAt h t j)
+other-partner : (h : Head) (t : List Record) (i j : ℕ) → Two h t i j → Other-partner (endAt h t i) (endAt h t j)
 unfolding endOf
-other-partner h t i j level two p s l =
+other-partner h t i j two p s l =
     two .different
     (sym (by-route .only (routeOf (recordAt t i)) h t i (two .table) (two .first) (is-for (recordAt t i) (recordAt t i) refl refl refl))
     ∙ by-route .only (routeOf (recordAt t i)) h t j (two .table) (two .second) (is-for (recordAt t i) (recordAt t j) (sym p) (sym l) (sym s)))
@@ -47,15 +53,52 @@ wrote-passes e n u (disconnect type reason text d bytes w) = disconnect-taken e 
 wrote-passes e n u (idle d w) = idle-taken e n d u w .passes
 wrote-passes e n u (data-telegram low net d bytes w) = data-taken e n low net d u bytes w .passes
 
-pub demand-3 : Demand-3
+pub no-telegram-for-two-levels : No-telegram-for-two-levels
 unfolding endOf
+no-telegram-for-two-levels h t i j m n u = level-apart (endAt h t i) (endAt h t j) m n u
+
+pub no-telegram-for-two-at-4 : No-telegram-for-two-at-4
+unfolding endOf
+no-telegram-for-two-at-4 h t i j m n u bytes two four p q =
+    apart-at-4 (endAt h t i) (endAt h t j) m n u bytes four (sym (no-telegram-for-two-levels h t i j m n u p q) ∙ four) refl (other-partner h t i j two) p q
+
+pub no-telegram-for-two-at-2 : No-telegram-for-two-at-2
+unfolding endOf
+no-telegram-for-two-at-2 h t i j m n u bytes two level near p q =
+    apart-at-2 (endAt h t i) (endAt h t j) m n u bytes level (sym (no-telegram-for-two-levels h t i j m n u p q) ∙ level) (other-partner h t i j two) near p q
+
+pub no-connect-for-two : No-connect-for-two
+unfolding endOf
+no-connect-for-two h t i j m n u bytes two connects = connect-apart (endAt h t i) (endAt h t j) m n u bytes connects refl (other-partner h t i j two)
+
+-- the other way round
+two-back : (h : Head) (t : List Record) (i j : ℕ) → Two h t i j → Two h t j i
+two-back h t i j two = record { table = two .table; first = two .second; second = two .first; different = λ e. two .different (sym e) }
+
+pub cards-exchanged : Cards-exchanged
+unfolding endOf
+cards-exchanged h t i j m n u bytes two four w p = no-telegram-for-two-at-4 h t j i m n u bytes (two-back h t i j two) four p (wrote-passes (mirrored (endAt h t i)) n u w)
+
+pub cards-exchanged-closes : Cards-exchanged-closes
+unfolding receivedOf
+cards-exchanged-closes h t i j n w random idle-time u net time d bytes two four wrote-it place phase early done =
+    let call = Received w random idle-time u net in
+    let r = recordAt t (firstMatch w t) in
+    let g = carried call h t time d done in
+    let v : judged r (h .own) time u ≡ Closes 0x06 false =
+    subst (λ (y : ℕ). judged (recordAt t y) (h .own) time u ≡ Closes 0x06 false) (sym place)
+    (failing-closes (recordAt t j) (h .own) time u phase early (cards-exchanged h t i j (recordAt t j .expected) n u bytes two four wrote-it)) in
+    g .event
+    ∙ (rw v (act-closes (receivedRefusal r (h .own) idle-time u net d) 0x06 false r (h .own) time random (declaredBy idle-time) u net d (rw v at (g .number)) .event))
+
+pub demand-3 : Demand-3
 demand-3 =
     record {
-      at-4 = λ h t i j m n u bytes two p q.
-          apart-at-4 (endAt h t i) (endAt h t j) m n u bytes (two .level-of-first) (two .level-of-second) refl (other-partner h t i j 4 two) p q;
-      at-2 = λ h t i j m n u bytes two near p q.
-          apart-at-2 (endAt h t i) (endAt h t j) m n u bytes (two .level-of-first) (two .level-of-second) (other-partner h t i j 2 two) near p q;
-      cards-exchanged = λ h t i j m n u bytes two w q.
-          apart-at-4 (endAt h t i) (endAt h t j) n m u bytes (two .level-of-first) (two .level-of-second) refl (other-partner h t i j 4 two)
-          (wrote-passes (mirrored (endAt h t i)) n u w) q;
+      one-level = no-telegram-for-two-levels;
+      at-4 = no-telegram-for-two-at-4;
+      at-2 = no-telegram-for-two-at-2;
+      connect = no-connect-for-two;
+      one-number = one-number;
+      cards-exchanged = cards-exchanged;
+      cards-exchanged-closes = cards-exchanged-closes;
     }

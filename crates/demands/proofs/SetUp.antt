@@ -4,12 +4,12 @@
 use mathlib.Core.Path.{_≡_, refl, sym, ap, subst, _∙_}
 use mathlib.Core.Bool.{true, false}
 use mathlib.Core.List.{List, [], _∷_}
-use Prim.Native.Nat.{ℕ, _^_, _<_}
+use Prim.Native.Nat.{ℕ, _+_, _^_, _≤_, _<_}
 use native.Mathlib.Omega.{arith}
 use lib.ListN.{length, set, take, getD}
 use lib.Seq.{getD-set-same}
 use lib.Dec.{eqb}
-use borrow.Author.Tests.{eq-eqb}
+use borrow.Author.Tests.{eq-eqb, le-ltb}
 use Rattle.telegram.specs.Choice.{pick, all}
 use Rattle.telegram.specs.Ends.{mirrored}
 use Rattle.telegram.specs.Layout.{values}
@@ -26,7 +26,7 @@ use Rattle.telegram.specs.declared.Kind.the-variants as kind
 use Rattle.telegram.specs.declared.Check.the-variants.{Passes}
 use Rattle.telegram.proofs.Taken.{request-taken, confirm-taken, authentication-taken, acknowledgement-taken}
 use Rattle.link.specs.Records.{endOf, become}
-use Rattle.link.specs.Times.{waitOver}
+use Rattle.link.specs.Times.{gap, waitOver}
 use Rattle.link.specs.Judged.{rowOf, ruled, narrowed, goodVersion, goodNumber, back, expectedNow, runOut, judged}
 use Rattle.link.specs.Steps.{next, taken, quietly, actOf, actOut, declaredBy, openRefusal, openOf, openOut, receivedRefusal, receivedOf, receivedOut}
 use Rattle.link.specs.declared.Record.{Record}
@@ -45,10 +45,11 @@ use Rattle.node.specs.Calls.{Left}
 use Rattle.node.specs.Calls.Call.{Open, Received}
 use Rattle.node.proofs.Facts.{by-route, others-unchanged}
 use Rattle.demands.specs.Pairs.{Mirror, telegramOf, routeFrom, Done}
-use Rattle.demands.specs.SetUp.{Given, Parties, here, there, takes, asks, confirms, authenticates, acknowledges, Sets-up, Demand-2-set-up}
+use Rattle.demands.specs.SetUp.{Given, Parties, here, there, takes, asks, confirms, authenticates, acknowledges, Sets-up, set-up, Demand-2-set-up, Demand-2-from-the-request}
 use Rattle.demands.proofs.Carried.{Carried, carried}
 use Rattle.demands.proofs.Steps.{Writes, writes, taken-in}
 use Rattle.demands.proofs.Demand2.{for-mirror}
+use Rattle.demands.proofs.EveryStep.{demand-2-over-every-step}
 
 -- What a node is left with by a call for its record at a place: the record, the event, the telegram.
 record Leaves (l : Left) (j own : ℕ) (q : Record) (e : Event) (x : List ℕ) : Type 0 where
@@ -261,8 +262,8 @@ module _ (p : Parties) where
     good-confirm = version-good (telegramOf (confirms p)) S (declaredBy (p .second .idle-time)) (confirm-there s 0 .fields)
 
     waits-for-confirm : runOut r₁ (p .third .time) ≡ false
-    unfolding runOut become pick
-    waits-for-confirm = subst (λ (y : Record). waitOver y (p .third .time) ≡ false) (asked-leaves s .record-is) (s .confirmed-in-time)
+    unfolding runOut waitOver become pick
+    waits-for-confirm = let l = s .confirmed-in-time in le-ltb 5000 (gap (p .first .time) (p .third .time)) (omega arith)
 
     authenticates-it : judged r₁ a (p .third .time) (telegramOf (confirms p)) ≡ Authenticate
     unfolding become pick
@@ -322,8 +323,8 @@ module _ (p : Parties) where
     same-level = ap (λ (e : End). e .level) (s .mirror)
 
     waits-for-authentication : runOut q₁ (p .fourth .time) ≡ false
-    unfolding runOut become pick
-    waits-for-authentication = subst (λ (y : Record). waitOver y (p .fourth .time) ≡ false) (confirmed-leaves s .record-is) (s .authenticated-in-time)
+    unfolding runOut waitOver become pick
+    waits-for-authentication = let l = s .authenticated-in-time in le-ltb 5000 (gap (p .second .time) (p .fourth .time)) (omega arith)
 
     number-is-ours : goodNumber q₁ 1 (telegramOf (authenticates p)) ≡ true
     unfolding goodNumber become
@@ -380,8 +381,8 @@ module _ (p : Parties) where
     towards-opener-again = mirror-back a b r₀ q₀ (s .mirror)
 
     waits-for-acknowledgement : runOut r₂ (p .fifth .time) ≡ false
-    unfolding runOut become pick
-    waits-for-acknowledgement = subst (λ (y : Record). waitOver y (p .fifth .time) ≡ false) (authenticated-leaves s .record-is) (s .acknowledged-in-time)
+    unfolding runOut waitOver become pick
+    waits-for-acknowledgement = let l = s .acknowledged-in-time in le-ltb 5000 (gap (p .third .time) (p .fifth .time)) (omega arith)
 
     number-is-mine : goodNumber r₂ 2 (telegramOf (acknowledges p)) ≡ true
     unfolding goodNumber become
@@ -404,10 +405,31 @@ module _ (p : Parties) where
 pub demand-2-set-up : Demand-2-set-up
 unfolding quietly taken become endOf
 demand-2-set-up p s =
-    let l = fifth-acts p s .leaves in let k = acknowledged-leaves p s in
+    let l = fifth-acts p s .leaves in
+    let k = acknowledged-leaves p s in
     record {
       opener = l .event-is;
       responder = k .event-is;
-      towards-responder = rw (l .record-is, k .record-is) (record { ends = s .mirror; open-here = refl; open-there = refl; number = refl });
-      towards-opener = rw (l .record-is, k .record-is) (record { ends = mirror-back (p .head .own) (p .head′ .own) (here p) (there p) (s .mirror); open-here = refl; open-there = refl; number = refl });
+      connected =
+          record {
+            towards =
+                record {
+                  here = l .there-is;
+                  there = k .there-is;
+                  open-to = rw (l .own-is, k .own-is, l .record-is, k .record-is) (record { ends = s .mirror; open-here = refl; open-there = refl; number = refl });
+                };
+            back =
+                record {
+                  here = k .there-is;
+                  there = l .there-is;
+                  open-to =
+                      rw (l .own-is, k .own-is, l .record-is, k .record-is)
+                      (record { ends = mirror-back (p .head .own) (p .head′ .own) (here p) (there p) (s .mirror); open-here = refl; open-there = refl; number = refl });
+                };
+          };
+      opener-watches = ap (λ (y : Record). y .watched) (l .record-is);
+      responder-watches = ap (λ (y : Record). y .watched) (k .record-is);
     }
+
+pub demand-2-from-the-request : Demand-2-from-the-request
+demand-2-from-the-request p xs s go = demand-2-over-every-step (set-up p) (p .i) (p .j) xs (demand-2-set-up p s .connected) go

@@ -1,8 +1,9 @@
 -- Demand 3: in an accepted table no telegram passes the check of two records.
 -- Assumes nothing.
 use mathlib.Core.Path.{_≡_, refl}
-use mathlib.Core.Bool.{true}
+use mathlib.Core.Bool.{true, false}
 use mathlib.Core.List.{List, [], _∷_}
+use mathlib.Core.Logic.{_⊎_}
 use Prim.Native.Nat.{ℕ, zero, suc, _+_, _^_, _≤_, _<_}
 use native.Mathlib.Omega.{arith}
 use lib.ListN.{length, getD, replicate}
@@ -12,47 +13,72 @@ use Rattle.checkword.specs.Generators.{generator48, generator32}
 use Rattle.checkword.specs.Word.{shift, feed}
 use Rattle.telegram.specs.Choice.{pick}
 use Rattle.telegram.specs.Levels.{topBits, width, wordLength, generator, levelOf}
-use Rattle.telegram.specs.Commands.{kindOf, isData}
-use Rattle.telegram.specs.Values.{goodIdle}
+use Rattle.telegram.specs.Commands.{kindOfCommand, kindOf, isData}
+use Rattle.telegram.specs.Values.{goodIdle, goodType, listedReason}
 use Rattle.telegram.specs.Ends.{receiving, mirrored, inRange, implicit}
+use Rattle.telegram.specs.Telegrams as telegrams
 use Rattle.telegram.specs.Telegrams.{dataTelegram, sealed, body, checkWord}
-use Rattle.telegram.specs.Writers.{writesRequest, writesConfirm, writesAuthentication, writesAcknowledgement, writesDisconnect, writesIdle, writesData, refusal, dataAllowed}
+use Rattle.telegram.specs.Writers.{writesRequest, writesConfirm, writesAuthentication, writesAcknowledgement, writesDisconnect, writesIdle, writesData, refusal, dataAllowed, connectAllowed, disconnectAllowed}
 use Rattle.telegram.specs.Writers.Outcome.{wrote}
-use Rattle.telegram.specs.Check.{usedFor, checkOf, wordAgrees}
+use Rattle.telegram.specs.Check.{commandOf, usedFor, checkOf, wordAgrees}
+use Rattle.telegram.specs.Facts.{One-number}
 use Rattle.telegram.specs.declared.End.{End}
+use Rattle.telegram.specs.declared.Kind.the-variants.{Request, Confirm}
 use Rattle.telegram.specs.declared.Clause.the-variants as clause
 use Rattle.telegram.specs.declared.Check.{Check}
 use Rattle.telegram.specs.declared.Check.the-variants.{Passes, Failed}
-use Rattle.link.specs.Records.{endOf, recordInRange, isPhase, isClosed, atRest, freshOf}
+use Rattle.link.specs.Records.{endOf, recordInRange, isPhase, isClosed, atRest, freshOf, become, closedBy}
+use Rattle.link.specs.Times.{watchOver}
+use Rattle.link.specs.Judged.{judged, runOut, expectedNow}
+use Rattle.link.specs.Steps.{firstRefusal, writingStep, receivedRefusal, receivedOf, receivedOut, declaredBy}
 use Rattle.link.specs.declared.Record.{Record}
+use Rattle.link.specs.declared.IdleTime.{IdleTime}
+use Rattle.link.specs.declared.Event.the-variants.{Closed}
 use Rattle.node.specs.declared.Head.{Head}
+use Rattle.node.specs.declared.Route.{Route}
+use Rattle.node.specs.Matching.{firstMatch}
 use Rattle.node.specs.Accepted.{recordAt, accepted, boundsAccepted, recordAccepted}
+use Rattle.node.specs.Calls.{Left, called, asked, settled}
+use Rattle.node.specs.Calls.Call.{Received}
+use Rattle.demands.specs.Pairs.{Done, In-time}
+use Rattle.demands.specs.Demand2.{exampleRecord}
 
--- Two different records of an accepted table, both of this level.
-pub record Two (h : Head) (t : List Record) (i j level : ℕ) : Type 0 where
+-- Two different records of an accepted table.
+pub record Two (h : Head) (t : List Record) (i j : ℕ) : Type 0 where
   -- the very predicate of answer 1
   pub table : accepted h t ≡ true
   pub first : i < length t
   pub second : j < length t
   pub different : i ≡ j → ⊥
-  pub level-of-first : recordAt t i .level ≡ level
-  pub level-of-second : recordAt t j .level ≡ level
 
 -- The end of the connection at a place of the table: its address is the head's, all else the record's. Nothing comes from a frame.
 abbrev pub endAt : Head → List Record → ℕ → End
 endAt h t i = endOf (recordAt t i) (h .own)
 
--- At level 4 no telegram passes the check of two records, whatever numbers m and n they expect.
+-- A telegram passes the checks of records of one level only.
+abbrev pub No-telegram-for-two-levels : Type 0
+No-telegram-for-two-levels =
+    (h : Head) (t : List Record) (i j m n : ℕ) (telegram : List ℕ)
+    → checkOf (endAt h t i) m telegram ≡ Passes → checkOf (endAt h t j) n telegram ≡ Passes → recordAt t i .level ≡ recordAt t j .level
+
+-- One that passes the check of a level 4 record passes that of no other record, whatever numbers m and n they expect.
 abbrev pub No-telegram-for-two-at-4 : Type 0
 No-telegram-for-two-at-4 =
-    (h : Head) (t : List Record) (i j m n : ℕ) (telegram : List ℕ) → Bytes telegram → Two h t i j 4
+    (h : Head) (t : List Record) (i j m n : ℕ) (telegram : List ℕ) → Bytes telegram → Two h t i j → recordAt t i .level ≡ 4
     → checkOf (endAt h t i) m telegram ≡ Passes → checkOf (endAt h t j) n telegram ≡ Passes → ⊥
 
--- At level 2 when the implicit bytes, with the numbers used, differ only within four neighbouring places.
+-- Nor does one for a level 2 record, when the implicit bytes, with the numbers used, differ only within four neighbouring places ..
 abbrev pub No-telegram-for-two-at-2 : Type 0
 No-telegram-for-two-at-2 =
-    (h : Head) (t : List Record) (i j m n : ℕ) (telegram : List ℕ) → Bytes telegram → Two h t i j 2
+    (h : Head) (t : List Record) (i j m n : ℕ) (telegram : List ℕ) → Bytes telegram → Two h t i j → recordAt t i .level ≡ 2
     → Within 4 (receiving (endAt h t i) (usedFor m telegram) (length telegram)) (receiving (endAt h t j) (usedFor n telegram) (length telegram))
+    → checkOf (endAt h t i) m telegram ≡ Passes → checkOf (endAt h t j) n telegram ≡ Passes → ⊥
+
+-- .. as they do for a connect request or confirm, at either level.
+abbrev pub No-connect-for-two : Type 0
+No-connect-for-two =
+    (h : Head) (t : List Record) (i j m n : ℕ) (telegram : List ℕ) → Bytes telegram → Two h t i j
+    → (kindOfCommand (commandOf telegram) ≡ Request) ⊎ (kindOfCommand (commandOf telegram) ≡ Confirm)
     → checkOf (endAt h t i) m telegram ≡ Passes → checkOf (endAt h t j) n telegram ≡ Passes → ⊥
 
 -- What an end writes: one of the seven telegrams, under the number n.
@@ -65,18 +91,30 @@ pub data Wrote (e : End) (n : ℕ) (telegram : List ℕ) : Type 0 where
   idle : (d : List ℕ) → writesIdle e n d ≡ wrote telegram → Wrote e n telegram
   data-telegram : (low : ℕ) (net d : List ℕ) → Bytes net → writesData e n low net d ≡ wrote telegram → Wrote e n telegram
 
--- The drawing: two cards exchanged. What the partner's end of one connection writes passes the check of no other level 4 record of the table, whatever that
--- record expects: the telegram keeps the implicit bytes that it was written with.
+-- The drawing: two cards exchanged. What the partner's end of one connection writes passes the check of no other record of level 4, whatever that record
+-- expects: the telegram keeps the implicit bytes that it was written with.
 abbrev pub Cards-exchanged : Type 0
 Cards-exchanged =
-    (h : Head) (t : List Record) (i j m n : ℕ) (telegram : List ℕ) → Bytes telegram → Two h t i j 4 → Wrote (mirrored (endAt h t i)) n telegram
-    → checkOf (endAt h t j) m telegram ≡ Passes → ⊥
+    (h : Head) (t : List Record) (i j m n : ℕ) (telegram : List ℕ) → Bytes telegram → Two h t i j → recordAt t j .level ≡ 4
+    → Wrote (mirrored (endAt h t i)) n telegram → checkOf (endAt h t j) m telegram ≡ Passes → ⊥
 
--- All of demand 3 over tables.
+-- So it hands up nothing: where it arrives as if it were for that record, open and in time, the connection is closed with 06h.
+abbrev pub Cards-exchanged-closes : Type 0
+Cards-exchanged-closes =
+    (h : Head) (t : List Record) (i j n : ℕ) (w : Route) (random : ℕ) (idle-time : IdleTime) (telegram net : List ℕ) (time : ℕ) (d : List ℕ)
+    → Bytes telegram → Two h t i j → recordAt t j .level ≡ 4 → Wrote (mirrored (endAt h t i)) n telegram
+    → firstMatch w t ≡ j → recordAt t j .phase ≡ 5 → In-time (recordAt t j) time → Done (called (Received w random idle-time telegram net) h t time d)
+    → called (Received w random idle-time telegram net) h t time d .outcome .event ≡ Closed 0x06 false
+
+-- All of demand 3 over tables. One-number, of telegrams other than connect requests and confirms: each passes at one expected number only.
 pub record Demand-3 : Type 0 where
+  pub one-level : No-telegram-for-two-levels
   pub at-4 : No-telegram-for-two-at-4
   pub at-2 : No-telegram-for-two-at-2
+  pub connect : No-connect-for-two
+  pub one-number : One-number
   pub cards-exchanged : Cards-exchanged
+  pub cards-exchanged-closes : Cards-exchanged-closes
 
 -- Worked example: node 1, which has seen no time yet ..
 abbrev pub exampleHead : Head
@@ -87,11 +125,11 @@ abbrev pub exampleTable : ℕ → List Record
 exampleTable level = freshOf 8 3 3 level ∷ freshOf 9 3 3 level ∷ []
 
 -- These are two different records of an accepted table, at level 4 and at level 2.
-pub example-two : Two exampleHead (exampleTable 4) 0 1 4 × Two exampleHead (exampleTable 2) 0 1 2
+pub example-two : Two exampleHead (exampleTable 4) 0 1 × Two exampleHead (exampleTable 2) 0 1
 unfolding accepted boundsAccepted recordAccepted recordInRange endOf inRange isPhase isClosed goodIdle atRest freshOf pick
 example-two = (
-  record { table = refl; first = lit< tt; second = lit< tt; different = λ p. omega arith; level-of-first = refl; level-of-second = refl },
-  record { table = refl; first = lit< tt; second = lit< tt; different = λ p. omega arith; level-of-first = refl; level-of-second = refl },
+  record { table = refl; first = lit< tt; second = lit< tt; different = λ p. omega arith },
+  record { table = refl; first = lit< tt; second = lit< tt; different = λ p. omega arith },
 )
 
 -- What node 8 writes to node 1 under the number 01234569h, data 09h with the net bytes 1 and 2: at level 4 ..
@@ -152,3 +190,18 @@ example-within = record { start = 2; one-length = refl; before = before; after =
     after (suc zero) p = refl
     after (suc (suc zero)) p = absurd (omega arith)
     after (suc (suc (suc k))) p = refl
+
+-- With both connections open, each at the number 01234569h: the telegram of node 8 arrives as if from node 9, and is not refused ..
+abbrev pub exampleOpen : List Record
+exampleOpen = exampleRecord 4 8 0x89ABCDF1 0x01234569 1000 ∷ exampleRecord 4 9 0x89ABCDF1 0x01234569 1000 ∷ []
+
+abbrev pub exampleExchanged : Left
+exampleExchanged =
+    called (Received (record { sender = 9; «destination_sap» = 3; «source_sap» = 3 }) 0 (record { named = false; time = 0 }) exampleTelegram4 []) (record { own = 1; latest = 1000 }) exampleOpen 1300
+    (replicate 244 0)
+
+-- .. the connection to node 9 is closed with 06h, and the one to node 8 stays open.
+pub example-exchanged :
+    Done exampleExchanged × (exampleExchanged .outcome .event ≡ Closed 0x06 false) × (recordAt (exampleExchanged .table) 1 .phase ≡ 1) × (recordAt (exampleExchanged .table) 0 .phase ≡ 5)
+unfolding called asked settled accepted boundsAccepted recordAccepted recordInRange endOf inRange isPhase isClosed goodIdle atRest firstRefusal writingStep refusal receivedRefusal receivedOf receivedOut declaredBy connectAllowed judged runOut watchOver expectedNow checkOf wordAgrees levelOf disconnectAllowed goodType listedReason writesDisconnect telegrams.disconnect closedBy become sealed body checkWord implicit topBits width wordLength generator generator48 generator32 shift feed kindOf isData pick
+example-exchanged = (refl, refl, refl, refl)

@@ -1,18 +1,19 @@
 -- Two nodes, the two ends of a connection between them, and a telegram from one to the other.
 -- Assumes nothing.
 use mathlib.Core.Path.{_≡_}
-use mathlib.Core.Bool.{false}
+use mathlib.Core.Bool.{true}
 use mathlib.Core.List.{List}
-use Prim.Native.Nat.{ℕ, _<_}
+use Prim.Native.Nat.{ℕ, _+_, _≤_, _<_}
 use lib.ListN.{length, take}
 use Rattle.telegram.specs.Ends.{mirrored}
+use Rattle.telegram.specs.Writers.{connectAllowed}
 use Rattle.link.specs.Records.{endOf}
-use Rattle.link.specs.Times.{watchOver}
+use Rattle.link.specs.Steps.{declaredBy}
 use Rattle.link.specs.declared.Record.{Record}
 use Rattle.link.specs.declared.IdleTime.{IdleTime}
 use Rattle.node.specs.declared.Head.{Head}
 use Rattle.node.specs.declared.Route.{Route}
-use Rattle.node.specs.Accepted.{recordAt}
+use Rattle.node.specs.Accepted.{recordAt, accepted}
 use Rattle.node.specs.Calls.{Call, Left, called}
 use Rattle.node.specs.Calls.Call.{Received}
 
@@ -46,12 +47,20 @@ pub record Nodes : Type 0 where
   pub head′ : Head
   pub table′ : List Record
 
--- The sender's record at place i and the partner's record at place j are open to each other.
-pub record Connected (n : Nodes) (i j : ℕ) : Type 0 where
+-- Seen from the partner.
+abbrev pub turned : Nodes → Nodes
+turned n = record { head = n .head′; table = n .table′; head′ = n .head; table′ = n .table }
+
+-- The sender's record at place i is open towards the partner's record at place j. Of what the partner sends nothing is said: it may be on its way, or lost.
+pub record Towards (n : Nodes) (i j : ℕ) : Type 0 where
   pub here : i < length (n .table)
   pub there : j < length (n .table′)
   pub open-to : Open-to (n .head .own) (recordAt (n .table) i) (n .head′ .own) (recordAt (n .table′) j)
-  pub open-back : Open-to (n .head′ .own) (recordAt (n .table′) j) (n .head .own) (recordAt (n .table) i)
+
+-- The two are open towards each other.
+pub record Connected (n : Nodes) (i j : ℕ) : Type 0 where
+  pub towards : Towards n i j
+  pub back : Towards (turned n) j i
 
 -- The circumstances of a telegram: when it is sent and when it is received, the buffers of both ends, and what the receiving call lends for a possible confirm.
 pub record Moment : Type 0 where
@@ -76,8 +85,23 @@ got n i c m =
 abbrev pub after : Nodes → ℕ → Call → Moment → Nodes
 after n i c m = record { head = sent n c m .outcome .head; table = sent n c m .table; head′ = got n i c m .outcome .head; table′ = got n i c m .table }
 
--- Both calls are done, and the telegram comes in time: the watch of the partner's record at place j has not run out.
+-- A time at which the watch of an open record has not run out: it has none (0), or the last telegram was taken at most so long ago.
+abbrev pub In-time : Record → ℕ → Type 0
+In-time r time = (r .watched ≡ 0 → ⊥) → time ≤ r .«taken_at» + r .watched
+
+-- Both calls are done, and the telegram comes in time for the partner's record at place j.
 pub record Arrives (n : Nodes) (i j : ℕ) (c : Call) (m : Moment) : Type 0 where
   pub done : Done (sent n c m)
   pub taken : Done (got n i c m)
-  pub in-time : watchOver (recordAt (n .table′) j) (m .at) ≡ false
+  pub in-time : In-time (recordAt (n .table′) j) (m .at)
+
+-- Nothing stands in the way of the two calls: both tables are accepted, both buffers have room, neither clock goes back, and what is lent for a possible confirm
+-- is allowed.
+pub record Nothing-wrong (n : Nodes) (j : ℕ) (m : Moment) : Type 0 where
+  pub table-here : accepted (n .head) (n .table) ≡ true
+  pub room-here : 244 ≤ length (m .out)
+  pub time-here : n .head .latest ≤ m .time
+  pub table-there : accepted (n .head′) (n .table′) ≡ true
+  pub room-there : 244 ≤ length (m .back)
+  pub time-there : n .head′ .latest ≤ m .at
+  pub lent : connectAllowed (declaredBy (m .idle-time)) (length (m .spare)) (recordAt (n .table′) j .level) ≡ true

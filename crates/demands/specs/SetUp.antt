@@ -1,12 +1,12 @@
--- Demand 2, set-up: from two closed mirrored records the four telegrams, each received in time, end with both open and mirrored in both directions, at both
--- levels, whatever the random numbers.
+-- Demand 2, set-up: from two closed mirrored records the four telegrams, each received in time, end with the two connected, at both levels and whatever the
+-- random numbers; and what is then sent comes up.
 -- Assumes nothing.
 use mathlib.Core.Path.{_≡_, refl}
 use mathlib.Core.Bool.{false}
 use mathlib.Core.List.{List, [], _∷_}
-use Prim.Native.Nat.{ℕ, _^_, _<_}
+use Prim.Native.Nat.{ℕ, _+_, _^_, _≤_, _<_}
 use lib.ListN.{length, replicate}
-use lib.Dec.{lit<}
+use lib.Dec.{lit<, lit≤}
 use Rattle.checkword.specs.Bytes.{Bytes}
 use Rattle.checkword.specs.Generators.{generator48, generator32}
 use Rattle.checkword.specs.Word.{shift, feed}
@@ -30,7 +30,8 @@ use Rattle.node.specs.Heads.{at}
 use Rattle.node.specs.Accepted.{recordAt, accepted, boundsAccepted, recordAccepted}
 use Rattle.node.specs.Calls.{Left, called, asked, settled}
 use Rattle.node.specs.Calls.Call.{Open, Received}
-use Rattle.demands.specs.Pairs.{Mirror, Open-to, telegramOf, routeFrom, Done}
+use Rattle.demands.specs.Pairs.{Mirror, telegramOf, routeFrom, Done, Nodes, Connected}
+use Rattle.demands.specs.EveryStep.{Exchange, All-go-well, handed-up, messages, Stay-connected}
 
 -- What a call is given: its time and buffer, a random number, and an idle time and net data for a request or a possible confirm.
 pub record Given : Type 0 where
@@ -81,7 +82,7 @@ acknowledges p = takes (authenticates p) (p .head .own) (here p) (confirms p .ou
 abbrev pub opens : Parties → Left
 opens p = takes (acknowledges p) (p .head′ .own) (there p) (authenticates p .outcome .head) (authenticates p .table) (p .fifth)
 
--- Closed and mirrored; every call is done; no wait is over when its telegram comes.
+-- Closed and mirrored; every call is done; each awaited telegram comes at most 5,000 after the one that it answers was sent (7.2).
 pub record Sets-up (p : Parties) : Type 0 where
   pub mirror : Mirror (p .head .own) (here p) (p .head′ .own) (there p)
   pub place : p .j < length (p .table′)
@@ -92,31 +93,42 @@ pub record Sets-up (p : Parties) : Type 0 where
   pub net-there : Bytes (p .second .net)
   pub asked : Done (asks p)
   pub confirmed : Done (confirms p)
-  pub confirmed-in-time : waitOver (recordAt (asks p .table) (p .i)) (p .third .time) ≡ false
+  pub confirmed-in-time : p .third .time ≤ p .first .time + 5000
   pub authenticated : Done (authenticates p)
-  pub authenticated-in-time : waitOver (recordAt (confirms p .table) (p .j)) (p .fourth .time) ≡ false
+  pub authenticated-in-time : p .fourth .time ≤ p .second .time + 5000
   pub acknowledged : Done (acknowledges p)
-  pub acknowledged-in-time : waitOver (recordAt (authenticates p .table) (p .i)) (p .fifth .time) ≡ false
+  pub acknowledged-in-time : p .fifth .time ≤ p .third .time + 5000
   pub opened : Done (opens p)
 
--- Both say that they are open, and each is open to the other.
+-- The two nodes afterwards, the opener first.
+abbrev pub set-up : Parties → Nodes
+set-up p = record { head = opens p .outcome .head; table = opens p .table; head′ = acknowledges p .outcome .head; table′ = acknowledges p .table }
+
+-- Both say that they are open, and so they are, towards each other; and each watches for the idle time that the other declared.
 pub record Both-open (p : Parties) : Type 0 where
   pub opener : opens p .outcome .event ≡ Opened
   pub responder : acknowledges p .outcome .event ≡ Opened
-  pub towards-responder : Open-to (p .head .own) (recordAt (opens p .table) (p .i)) (p .head′ .own) (recordAt (acknowledges p .table) (p .j))
-  pub towards-opener : Open-to (p .head′ .own) (recordAt (acknowledges p .table) (p .j)) (p .head .own) (recordAt (opens p .table) (p .i))
+  pub connected : Connected (set-up p) (p .i) (p .j)
+  pub opener-watches : recordAt (opens p .table) (p .i) .watched ≡ declaredBy (p .second .idle-time)
+  pub responder-watches : recordAt (acknowledges p .table) (p .j) .watched ≡ declaredBy (p .first .idle-time)
 
 abbrev pub Demand-2-set-up : Type 0
 Demand-2-set-up = (p : Parties) → Sets-up p → Both-open p
+
+-- From the request on: after a set-up, whatever is exchanged comes up.
+abbrev pub Demand-2-from-the-request : Type 0
+Demand-2-from-the-request =
+    (p : Parties) (xs : List Exchange) → Sets-up p → All-go-well (set-up p) (p .i) (p .j) xs
+    → (handed-up (set-up p) (p .i) (p .j) xs ≡ messages xs) × Stay-connected (set-up p) (p .i) (p .j) xs
 
 -- Worked example: what a call is given at this time, with this random number and these net data, and no idle time named.
 abbrev pub exampleGiven : ℕ → ℕ → List ℕ → Given
 exampleGiven time random net = record { time = time; out = replicate 244 0; random = random; idle-time = record { named = false; time = 0 }; net = net }
 
--- Node 8 opens a connection to node 9, from SAP 3 to SAP 3 at this level, with the random numbers 01234567h and 89ABCDEFh (5.3.1.7). The request carries the net
--- byte 1, the confirm the net bytes 2 and 3.
-abbrev pub exampleParties : ℕ → Parties
-exampleParties level =
+-- Node 8 opens a connection to node 9, from SAP 3 to SAP 3 at this level, with these random numbers. The request carries the net byte 1, the confirm the net
+-- bytes 2 and 3.
+abbrev pub exampleParties : ℕ → ℕ → ℕ → Parties
+exampleParties level random random′ =
     record {
       head = record { own = 8; latest = 0 };
       table = freshOf 9 3 3 level ∷ [];
@@ -124,15 +136,16 @@ exampleParties level =
       head′ = record { own = 9; latest = 0 };
       table′ = freshOf 8 3 3 level ∷ [];
       j = 0;
-      first = exampleGiven 1000 0x01234567 (1 ∷ []);
-      second = exampleGiven 1010 0x89ABCDEF (2 ∷ 3 ∷ []);
+      first = exampleGiven 1000 random (1 ∷ []);
+      second = exampleGiven 1010 random′ (2 ∷ 3 ∷ []);
       third = exampleGiven 1020 0 [];
       fourth = exampleGiven 1030 0 [];
       fifth = exampleGiven 1040 0 [];
     }
 
--- Every call is done and in time, at level 4 and at level 2.
-pub example-sets-up : Sets-up (exampleParties 4) × Sets-up (exampleParties 2)
+-- Every call is done and in time: with the random numbers 01234567h and 89ABCDEFh (5.3.1.7) at level 4, and at level 2 with the largest one, after which the
+-- numbers begin again at 0.
+pub example-sets-up : Sets-up (exampleParties 4 0x01234567 0x89ABCDEF) × Sets-up (exampleParties 2 0xFFFFFFFF 0xFFFFFFFF)
 unfolding called asked settled accepted boundsAccepted recordAccepted recordInRange endOf inRange isPhase isClosed goodIdle firstRefusal writingStep refusal openRefusal openOf openOut connectAllowed writesRequest request become receivedRefusal receivedOf receivedOut declaredBy judged passed expectedNow runOut checkOf wordAgrees levelOf quietly sealed body checkWord implicit topBits width wordLength generator generator48 generator32 shift feed kindOf writesConfirm confirm writesAuthentication authentication writesAcknowledgement acknowledgement added goodVersion goodNumber goodDualBus waitOver at atRest freshOf pick
 example-sets-up = (
   record {
@@ -145,11 +158,11 @@ example-sets-up = (
     net-there = (lit< tt, (lit< tt, tt));
     asked = refl;
     confirmed = refl;
-    confirmed-in-time = refl;
+    confirmed-in-time = lit≤ tt;
     authenticated = refl;
-    authenticated-in-time = refl;
+    authenticated-in-time = lit≤ tt;
     acknowledged = refl;
-    acknowledged-in-time = refl;
+    acknowledged-in-time = lit≤ tt;
     opened = refl;
   },
   record {
@@ -162,11 +175,11 @@ example-sets-up = (
     net-there = (lit< tt, (lit< tt, tt));
     asked = refl;
     confirmed = refl;
-    confirmed-in-time = refl;
+    confirmed-in-time = lit≤ tt;
     authenticated = refl;
-    authenticated-in-time = refl;
+    authenticated-in-time = lit≤ tt;
     acknowledged = refl;
-    acknowledged-in-time = refl;
+    acknowledged-in-time = lit≤ tt;
     opened = refl;
   },
 )
