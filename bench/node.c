@@ -3,7 +3,8 @@
  * what is to be measured.
  *
  * All records are at level 4, and the call is for the last one. Data have NET bytes, the other telegrams none. The record is put back before each
- * call, which is in the time too.
+ * call, which is in the time too. Each call of a round goes with another number: the bits of the check word decide branches, and a processor learns to
+ * foresee those of a telegram that comes again and again.
  */
 #define _POSIX_C_SOURCE 199309L
 #include <stdio.h>
@@ -18,15 +19,27 @@ enum { ROUNDS = 15, CALLS = 1000, NET = 32, LATEST = 1000 };
 
 enum { OWN = 8, PARTNER_SAP = 9, LOCAL_SAP = 5, DATA_COMMAND = 0x09 };
 
-/* What a call is measured on: the table, its last record as it stands before each call, the data telegram that this record expects, and a buffer. */
+/* What a call is measured on: the table, its last record as it stands before each call but for the number, that number, the data telegram that has it, and a
+ * buffer. */
 typedef struct bench {
     uj_record table[UJ_MOST_RECORDS];
     size_t count;
     uj_record record;
     uj_head head;
-    uint8_t telegram[UJ_LONGEST], net[NET], out[UJ_LONGEST];
+    uint32_t number;
+    uint8_t net[NET], out[UJ_LONGEST];
+    const uint8_t *telegram;
     size_t length;
 } bench;
+
+/* The data telegrams of a round, in the order of its calls. */
+static uint8_t telegrams[CALLS][UJ_LONGEST];
+
+/* The number that a call goes with. */
+static uint32_t number_at(int call)
+{
+    return (uint32_t)call * 2654435761u + 12345;
+}
 
 /* The address of the partner at a place: no two are alike, and none is ours. */
 static uint32_t partner_at(size_t place)
@@ -44,14 +57,18 @@ static uj_record open_record(size_t place)
     return r;
 }
 
-/* The data telegram comes from the partner's own end, so that nothing but the calls is needed to make it. */
+/* The data telegrams come from the partner's own end, so that nothing but the calls is needed to make them. */
 static void receive_data(bench *b)
 {
     uj_record r = uj_fresh(OWN, LOCAL_SAP, PARTNER_SAP, 4);
     uj_head head = uj_new_head(partner_at(b->count - 1));
 
     r.phase = UJ_OPEN;
-    b->length = uj_send(&r, 1, head, LATEST, 0, DATA_COMMAND, b->net, NET, b->telegram, UJ_LONGEST).answer.length;
+    for (int i = 0; i < CALLS; i++) {
+        r.sending = number_at(i);
+        r.sent_at = 0;
+        b->length = uj_send(&r, 1, head, LATEST, 0, DATA_COMMAND, b->net, NET, telegrams[i], UJ_LONGEST).answer.length;
+    }
 }
 
 static bench new_bench(size_t count)
@@ -73,12 +90,12 @@ static bench new_bench(size_t count)
 
 static uj_outcome open_call(bench *b)
 {
-    return uj_open(b->table, b->count, b->head, LATEST, b->count - 1, 0x01234567, 0, 0, NULL, 0, b->out, UJ_LONGEST);
+    return uj_open(b->table, b->count, b->head, LATEST, b->count - 1, b->number, 0, 0, NULL, 0, b->out, UJ_LONGEST);
 }
 
 static uj_outcome close_call(bench *b)
 {
-    return uj_close(b->table, b->count, b->head, LATEST, b->count - 1, 1, 0x20, NULL, 0, b->out, UJ_LONGEST);
+    return uj_close(b->table, b->count, b->head, LATEST, b->count - 1, UJ_NEW_SETUP, 0x20, NULL, 0, b->out, UJ_LONGEST);
 }
 
 static uj_outcome send_call(bench *b)
@@ -148,6 +165,10 @@ static double measured(size_t row, size_t count)
         const double start = now();
         for (int i = 0; i < CALLS; i++) {
             *record = b.record;
+            b.number = number_at(i);
+            b.telegram = telegrams[i];
+            if (record->phase == UJ_OPEN)
+                record->sending = record->expected = b.number;
             o = rows[row].call(&b);
         }
         const double spent = (now() - start) / CALLS;

@@ -3,9 +3,11 @@
 # Every instruction of a function is given its depth: the bytes between the return address and the stack pointer. The way there is followed through
 # every jump, and an instruction that is reached with two depths, or an instruction on the stack pointer that is not known here, ends the program: no
 # figure is better than a wrong one.
+#
+# An archive may hold several objects, each with functions of its own under the same names. So a function is known by its object's number before its name.
 
 function fail(text) {
-    print "stack: " at ": " text > "/dev/stderr"
+    print "stack: " plain(at) ": " text > "/dev/stderr"
     failed = 1
     exit 1
 }
@@ -20,12 +22,27 @@ function number(text,    i, n) {
     return n + 0
 }
 
-/^[0-9a-f]+ g +F .*uj_/ { exported[++total] = $NF }
+# The name of a function without its object's number.
+function plain(f) {
+    sub(/^[0-9]+\//, "", f)
+    return f
+}
+
+/: +file format / {
+    object++
+    name = ""
+}
+
+/^[0-9a-f]+ g +F .*uj_/ {
+    exported[++total] = object "/" $NF
+    global[$NF] = object "/" $NF
+}
 
 /^[0-9a-f]+ <.*>:$/ {
     name = $0
     sub(/^[0-9a-f]+ </, "", name)
     sub(/>:$/, "", name)
+    name = object "/" name
     next
 }
 
@@ -89,12 +106,14 @@ function below(f, i,    text) {
     return number(substr(text, RSTART + 1, RLENGTH - 6))
 }
 
-# Notes that f calls another function, at that depth. After a jump to a function the return address is f's own.
-function note_call(f, callee, d, jumped) {
+# Notes that f calls another function, of its own object or a global one, at that depth. After a jump to a function the return address is f's own.
+function note_call(f, callee, d, jumped,    own) {
     if (callee ~ /^\?/ || callee == "")
         fail("a call whose function is not named")
     calls[f]++
-    called[f, calls[f]] = callee
+    own = f
+    sub(/\/.*/, "/", own)
+    called[f, calls[f]] = !((own callee) in count) && callee in global ? global[callee] : own callee
     call_depth[f, calls[f]] = d + (jumped ? 0 : 8)
 }
 
@@ -191,17 +210,17 @@ function need(f,    i, callee, deepest, bytes) {
         fail("recursion")
     active[f] = 1
     deepest = 8 + peak[f]
-    chain[f] = f " " deepest
+    chain[f] = plain(f) " " deepest
     for (i = 1; i <= calls[f]; i++) {
         callee = called[f, i]
         if (!(callee in count)) {
-            unresolved[callee] = 1
+            unresolved[plain(callee)] = 1
             continue
         }
         bytes = call_depth[f, i] + need(callee)
         if (bytes > deepest) {
             deepest = bytes
-            chain[f] = f " " call_depth[f, i] " + " chain[callee]
+            chain[f] = plain(f) " " call_depth[f, i] " + " chain[callee]
         }
     }
     delete active[f]
@@ -220,7 +239,7 @@ END {
         need(exported[i])
     printf "%-26s %5s  %s\n", archive, "bytes", "deepest chain, with what each function holds when it calls the next"
     for (i = 1; i <= total; i++)
-        printf "%-26s %5d  %s\n", exported[i], needed[exported[i]], chain[exported[i]]
+        printf "%-26s %5d  %s\n", plain(exported[i]), needed[exported[i]], chain[exported[i]]
     for (f in unresolved)
         print "counted as 0, since its code is not in the archive: " f
 }

@@ -14,7 +14,22 @@ size_t node_add(node *n, uint32_t partner, uint32_t partner_sap, uint32_t local_
         return MOST_CONNECTIONS;
     /* From the configuration, never from an arriving frame: that is what keeps two partners apart. */
     n->table[n->count] = uj_fresh(partner, partner_sap, local_sap, level);
+    n->incorrect[n->count] = 0;
     return n->count++;
+}
+
+static int on_route(uj_record record, route r)
+{
+    return record.partner == r.partner && record.partner_sap == r.partner_sap && record.local_sap == r.local_sap;
+}
+
+size_t node_place(const node *n, route r)
+{
+    size_t place = 0;
+
+    while (place < n->count && !on_route(n->table[place], r))
+        place++;
+    return place;
 }
 
 static route route_of(const node *n, size_t place)
@@ -39,7 +54,8 @@ static uint32_t finish(node *n, route r, const char *call, uj_outcome o, const u
     /* A refused call has changed nothing: there is nothing to store and nothing to send. */
     if (o.answer.number != UJ_DONE)
         return o.answer.number;
-    /* The head holds the latest time. With an old one, a clock that goes back would pass unseen. */
+    /* The head holds the latest time. With the old one, the timers that this call has set would lie after it, and every later call would be refused
+     * with UJ_OUT_OF_RANGE. */
     n->head = o.head;
     /* First the telegram, then the layer above: it may make a call in turn, and that call writes into the same buffer. */
     if (o.answer.telegram != UJ_TELEGRAM_NONE)
@@ -73,14 +89,35 @@ uint32_t node_send(node *n, uint64_t time, size_t place, uint32_t command, const
     return finish(n, route_of(n, place), "send", o, NULL);
 }
 
+/* The caller's duty. The link closes with 06h at each incorrect telegram and keeps no time of it; SUBSET-057 wants the second within a period to end
+ * the connection for good (5.2.5.8.4). An open and a final close do that here, and their two telegrams do it at the partner. */
+static void count_incorrect(node *n, uint64_t time, size_t place)
+{
+    const uint64_t period = n->table[place].level == 4 ? PERIOD_AT_4 : PERIOD_AT_2;
+    const int second = n->incorrect[place] && time - n->incorrect_at[place] <= period;
+
+    n->incorrect[place] = 1;
+    n->incorrect_at[place] = time;
+    if (!second)
+        return;
+    /* Only a record that is not closed can be closed; the layer above may have opened it again already. */
+    if (n->table[place].phase == UJ_CLOSED)
+        node_open(n, time, place);
+    node_close(n, time, place, UJ_FINAL, UJ_REASON_INCORRECT_2ND, "");
+}
+
 uint32_t node_received(node *n, uint64_t time, frame f)
 {
     /* The table may hold the record anywhere, and an answer goes back the way the telegram came: to its sender, with the SAPs exchanged. */
     const route back = {f.sender, f.source_sap, f.destination_sap};
     const uj_outcome o = uj_received(n->table, n->count, n->head, time, f.sender, f.destination_sap, f.source_sap, board_random(n), 1, IDLE_TIME,
                                      f.telegram, f.length, NULL, 0, n->out, sizeof n->out);
+    const uint32_t answer = finish(n, back, "received", o, f.telegram);
 
-    return finish(n, back, "received", o, f.telegram);
+    /* Closed with 06h by ourselves: we wrote the disconnect. Where the partner's closed the connection, the incorrect telegram was ours to it. */
+    if (o.answer.telegram == UJ_TELEGRAM_DISCONNECT && o.happened.reason == UJ_REASON_INCORRECT_1ST)
+        count_incorrect(n, time, node_place(n, back));
+    return answer;
 }
 
 void node_tick(node *n, uint64_t time)

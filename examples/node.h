@@ -1,6 +1,6 @@
 /*
  * The firmware of one node over include/ujamniq.h: the part to copy from. It stores the head, looks at every answer, sends what was written, tells
- * the layer above what happened, and ticks every record.
+ * the layer above what happened, ticks every record, and ends a connection at the second incorrect telegram.
  *
  * What a board has to give stands at the end: a random number, the bus driver and the layer above.
  */
@@ -15,14 +15,16 @@ enum { MOST_CONNECTIONS = 4 };
 /* The idle time that we declare, and how often we tick: well within half of it. We name the idle time, so that no default decides it. */
 enum { IDLE_TIME = 500, TICK_TIME = 50 };
 
-/* New set-up desired, and the reason that firmware closes with (5.2.5.9). */
-enum { FINAL = 0, MAY_BE_OPENED_AGAIN = 1 };
-enum { FROM_APPLICATION = 0x00 };
+/* Within how many milliseconds a second incorrect telegram ends a connection (11.3.5.1.2, 11.4.5.1.2). */
+enum { PERIOD_AT_4 = 25000, PERIOD_AT_2 = 64000 };
 
-/* All that a node keeps: its head, its table, and one buffer for the telegram that a call writes. */
+/* All that a node keeps: its head, its table, for each record the time of the latest incorrect telegram, if there was one, and one buffer for the
+ * telegram that a call writes. */
 typedef struct node {
     uj_head head;
     uj_record table[MOST_CONNECTIONS];
+    int incorrect[MOST_CONNECTIONS];
+    uint64_t incorrect_at[MOST_CONNECTIONS];
     size_t count;
     uint8_t out[UJ_LONGEST];
 } node;
@@ -43,14 +45,17 @@ typedef struct frame {
 void node_start(node *n, uint32_t own);
 size_t node_add(node *n, uint32_t partner, uint32_t partner_sap, uint32_t local_sap, uint32_t level);
 
-/* The five calls. Each gives back its answer: UJ_DONE, or why it was refused. */
+/* The place of the record on a route; one past the table where there is none. */
+size_t node_place(const node *n, route r);
+
+/* The five calls. Each gives back its answer: UJ_DONE, or why it was refused. `new_setup` is UJ_FINAL or UJ_NEW_SETUP. */
 uint32_t node_open(node *n, uint64_t time, size_t place);
 uint32_t node_close(node *n, uint64_t time, size_t place, uint32_t new_setup, uint32_t reason, const char *text);
 uint32_t node_send(node *n, uint64_t time, size_t place, uint32_t command, const uint8_t *net, size_t length);
 uint32_t node_received(node *n, uint64_t time, frame f);
 void node_tick(node *n, uint64_t time);
 
-/* A new random number for each call: from a generator that no partner can foresee. */
+/* A new random number for each call, from a generator that doesn't begin alike at every start of the card. */
 uint32_t board_random(const node *n);
 
 /* Hands a telegram to the bus driver. The next call writes over it, so the driver sends or copies it before it returns. */

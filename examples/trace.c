@@ -7,10 +7,10 @@ static const char *const telegram_names[] = {
     "nothing", "request", "confirm", "authentication", "acknowledgement", "disconnect", "idle", "data",
 };
 
-/* In the order of UJ_CLOSED .. UJ_FINALLY_CLOSED; a record of zeros is in none of them. */
-static const char *const phase_names[] = {
-    "none", "closed", "awaiting the confirm", "awaiting the authentication", "awaiting the acknowledgement", "open", "finally closed",
-};
+void trace_columns(void)
+{
+    printf("\n%6s  %-15s   %-15s  %-7s  %-15s  %-9s  %3s  %s\n", "time", "from", "to", "SAPs", "telegram", "number", "len", "bytes | check word");
+}
 
 void trace_heading(const char *text)
 {
@@ -19,7 +19,7 @@ void trace_heading(const char *text)
 
 void trace_damage(uint64_t time, size_t at, unsigned was, unsigned is)
 {
-    printf("%6llu      damaged under way: byte %zu was %02X and arrives as %02X\n", (unsigned long long)time, at, was, is);
+    printf("%6llu      damaged under way: byte %zu, sent as %02X, arrives as %02X\n", (unsigned long long)time, at, was, is);
 }
 
 /* The low six bits of a command (5.1.1.5) and the telegram that they name. */
@@ -88,71 +88,90 @@ static const char *refusal_name(uint32_t number)
 static const char *why_closed(uj_outcome o)
 {
     if (o.answer.telegram == UJ_TELEGRAM_NONE)
-        return "as the partner's disconnect says";
+        return "the partner's disconnect says so";
     switch (o.happened.reason) {
-    case 0x00:
-        return "as the application asks";
-    case 0x02:
-        return "since no confirm came in time";
-    case 0x03:
-        return "since the authentication is wrong or late";
-    case 0x05:
-        return "since it is silent for longer than it declared";
-    case 0x06:
-        return "since the telegram fails the check";
+    case UJ_REASON_APPLICATION:
+        return "the application wants it";
+    case UJ_REASON_SET_UP:
+        return "no confirm came within 5000 ms";
+    case UJ_REASON_AUTHENTICATION:
+        return "the authentication is wrong or late";
+    case UJ_REASON_IDLE:
+        return "the partner is silent for longer than it declared";
+    case UJ_REASON_INCORRECT_1ST:
+        return "the telegram fails the check";
+    case UJ_REASON_INCORRECT_2ND:
+        return "the firmware has counted two incorrect telegrams within the period";
     default:
-        return "since the telegram is not for this phase";
+        return "the telegram is not for this phase";
     }
 }
 
 static void trace_closed(const char *partner, uj_outcome o)
 {
-    printf("closes the connection with %s%s, %s: %02Xh, %s", partner, o.happened.last ? " finally" : "", why_closed(o), (unsigned)o.happened.reason,
+    printf("closes the connection with %s%s: %s (%02Xh, %s)", partner, o.happened.last ? " finally" : "", why_closed(o), (unsigned)o.happened.reason,
            reason_name(o.happened.reason));
+    if (o.answer.telegram != UJ_TELEGRAM_NONE)
+        printf("; the disconnect goes out");
+}
+
+/* The responder opens as it acknowledges, the opener when it takes the acknowledgement. Each has got its own random number back, plus 1 at level 4 and
+ * plus 2 at level 2 (5.1.4). */
+static void trace_opened(const char *partner, uj_outcome o, uint32_t level)
+{
+    const int responder = o.answer.telegram == UJ_TELEGRAM_ACKNOWLEDGEMENT;
+
+    printf("takes the %s: it passes the check and returns our random number plus %d; %sthe connection with %s is open",
+           responder ? "authentication" : "acknowledgement", level == 4 ? 1 : 2, responder ? "the acknowledgement goes out, and " : "", partner);
 }
 
 /* No event: the set-up goes on with the next telegram; else idle was taken, or the telegram dropped. */
-static void trace_nothing(uj_outcome o, uint32_t phase)
+static void trace_nothing(const char *partner, uj_outcome o, uint32_t phase)
 {
-    if (o.answer.telegram != UJ_TELEGRAM_NONE)
-        printf("takes it, and is %s", phase_names[phase]);
+    if (o.answer.telegram == UJ_TELEGRAM_CONFIRM)
+        printf("takes the request: it passes the check and has version 3.0; the confirm goes out, the authentication is awaited");
+    else if (o.answer.telegram == UJ_TELEGRAM_AUTHENTICATION)
+        printf("takes the confirm: it passes the check and has version 3.0; the authentication goes out, the acknowledgement is awaited");
     else if (phase == UJ_OPEN)
-        printf("takes it: the partner is there");
+        printf("takes the idle telegram: it passes the check; the watch on %s begins anew", partner);
+    else if (phase == UJ_CLOSED)
+        printf("drops it: the connection with %s is closed, and only a good request is taken", partner);
     else
-        printf("drops it: %s, and only a good %s counts", phase_names[phase], phase == UJ_CLOSED ? "request" : "confirm");
+        printf("drops it: a confirm of %s is awaited", partner);
 }
 
-static void trace_event(const char *partner, uj_outcome o, uint32_t phase)
+static void trace_event(const char *partner, uj_outcome o, uj_record record)
 {
     switch (o.happened.event) {
     case UJ_EVENT_OPENED:
-        printf("opens the connection with %s", partner);
+        trace_opened(partner, o, record.level);
         break;
     case UJ_EVENT_DATA:
-        printf("hands up data %02Xh of %s, %u bytes", (unsigned)o.happened.command, partner, (unsigned)o.happened.count);
+        printf("takes the data: they pass the check; %u bytes of %s are handed up under %02Xh", (unsigned)o.happened.count, partner,
+               (unsigned)o.happened.command);
         break;
     case UJ_EVENT_CLOSED:
         trace_closed(partner, o);
         break;
     default:
-        trace_nothing(o, phase);
+        trace_nothing(partner, o, record.phase);
     }
-    if (o.answer.telegram != UJ_TELEGRAM_NONE)
-        printf("; the %s goes out", telegram_names[o.answer.telegram]);
     printf("\n");
 }
 
-void trace_outcome(uint64_t time, const char *name, const char *partner, const char *call, uj_outcome o, uint32_t phase)
+void trace_outcome(uint64_t time, const char *name, const char *partner, const char *call, uj_outcome o, uj_record record)
 {
     const int received = strcmp(call, "received") == 0;
 
     if (o.answer.number == UJ_DONE && !received && o.happened.event == UJ_EVENT_NOTHING)
         return;
     printf("%6llu      %s ", (unsigned long long)time, name);
-    if (o.answer.number != UJ_DONE)
-        printf("is refused \"%s\", answer %u: %s\n", call, (unsigned)o.answer.number, refusal_name(o.answer.number));
+    if (o.answer.number == UJ_DONE)
+        trace_event(partner, o, record);
+    else if (received)
+        printf("refuses it, answer %u: %s\n", (unsigned)o.answer.number, refusal_name(o.answer.number));
     else
-        trace_event(partner, o, phase);
+        printf("tries \"%s\" and is refused, answer %u: %s\n", call, (unsigned)o.answer.number, refusal_name(o.answer.number));
 }
 
 void trace_data(const uint8_t *net, size_t count)

@@ -83,7 +83,8 @@ static const char *partner_name(uint32_t partner)
     return "nobody";
 }
 
-/* The random numbers of a board begin with the one that the scene has set. A card takes its own from a generator that no partner can foresee. */
+/* The random numbers of a board begin with the one that the scene has set. A card takes its own from a generator that doesn't begin alike at every
+ * start. */
 uint32_t board_random(const node *n)
 {
     board *b = board_of(n);
@@ -146,18 +147,12 @@ void board_happened(const node *n, route r, uj_happened h, const uint8_t *net)
     mistaken_count += h.count < strlen(name) || memcmp(net, name, strlen(name)) != 0;
 }
 
-/* The phase of the record on a route, 0 where there is none. */
-static uint32_t phase_on(const node *n, route r)
-{
-    for (size_t i = 0; i < n->count; i++)
-        if (n->table[i].partner == r.partner && n->table[i].partner_sap == r.partner_sap && n->table[i].local_sap == r.local_sap)
-            return n->table[i].phase;
-    return 0;
-}
-
 void board_watched(const node *n, route r, const char *call, uj_outcome o)
 {
-    trace_outcome(now, name_on_bus(board_of(n)), partner_name(r.partner), call, o, phase_on(n, r));
+    const size_t place = node_place(n, r);
+    const uj_record none = {0};
+
+    trace_outcome(now, name_on_bus(board_of(n)), partner_name(r.partner), call, o, place < n->count ? n->table[place] : none);
 }
 
 /* Damages one bit in the middle of a telegram, as a cable may. */
@@ -282,7 +277,7 @@ static void scene_damage(void)
 static void scene_final(void)
 {
     trace_heading("5. The on-board computer closes the connection with module 9 for good (5.2.5.8.1). Neither end opens it again.");
-    must(node_close(&boards[ON_BOARD].node, now, TO_9, FINAL, FROM_APPLICATION, "end of run") == UJ_DONE, "close is refused");
+    must(node_close(&boards[ON_BOARD].node, now, TO_9, UJ_FINAL, UJ_REASON_APPLICATION, "end of run") == UJ_DONE, "close is refused");
     pass(10);
     must(node_open(&boards[ON_BOARD].node, now, TO_9) == UJ_ENDED, "a finally closed record opens");
     must(node_open(&boards[MODULE_9].node, now, 0) == UJ_ENDED, "a finally closed record opens");
@@ -318,8 +313,8 @@ static void scene_exchange(void)
     send_from(MODULE_10, 0, 0x20, "module 10: shut");
     send_from(MODULE_20, 0, 0x20, "module 20: open");
     pass(10);
-    trace_heading("8. The workshop exchanges their cards. What one sends arrives under the other's address, with the number that "
-                  "is expected there.");
+    trace_heading("8. The workshop exchanges their cards: \"module 10 at 20\" is module 10's card in the place of module 20. What it sends comes from "
+                  "address 20, and has the very number that is expected from there.");
     exchange();
     data_count = 0;
     send_from(MODULE_10, 0, 0x20, "module 10: shut");
@@ -338,10 +333,29 @@ static void scene_exchange(void)
     pass(10);
 }
 
+/* Whether both ends of a connection of the on-board computer are closed for good. */
+static int ended(size_t place, int module)
+{
+    return boards[ON_BOARD].node.table[place].phase == UJ_FINALLY_CLOSED && boards[module].node.table[0].phase == UJ_FINALLY_CLOSED;
+}
+
+static void scene_second_damage(void)
+{
+    trace_heading("11. Module 8 is plugged in again, and opens its connection. Another of its telegrams is damaged, the second within 25 s. The link "
+                  "closes as before; the firmware has counted, and ends the connection for good (5.2.5.8.4).");
+    open_from(MODULE_8, 0);
+    pass(10);
+    damage_next = 1;
+    send_from(MODULE_8, 0, 0x20, "module 8: ready");
+    pass(10);
+    must(ended(TO_8, MODULE_8), "a connection goes on after the second incorrect telegram");
+}
+
 int main(void)
 {
-    printf("The on-board computer, address 1, and the national modules 8, 9, 10 and 20.\n");
-    printf("A line for each telegram: time in ms, from and to, SAPs, telegram, its number, length, bytes | check word. Below it what came of it.\n");
+    printf("The on-board computer, address 1, and the national modules 8, 9, 10 and 20 on one bus.\n");
+    printf("A line for each telegram, as below: the time is in ms, the number is the sequence number. Under it what the receiver did, and why.\n");
+    trace_columns();
     configure();
     scene_level_4();
     scene_level_2();
@@ -350,6 +364,7 @@ int main(void)
     scene_final();
     scene_wait();
     scene_exchange();
+    scene_second_damage();
     printf("\nData that came up under another's name: %u.\n", mistaken_count);
     return mistaken_count != 0;
 }

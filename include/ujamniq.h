@@ -1,14 +1,20 @@
 /*
  * Ujamniq: the Safe Link Layer of the STM bus (SUBSET-057 version 2.2.0), levels 4 and 2, for C firmware.
  *
- * A node uses the five calls over its table: uj_open, uj_close, uj_send, uj_received, uj_tick (libnode.a). They write every telegram and check every
- * telegram by themselves. The writers, the check and the check word also stand alone (libfirmware.a). The two archives can be linked together.
+ * Link libujamniq.a, which `./install FOLDER` makes: every function of this header is in it. It uses no heap.
  *
- * Every function here takes any numbers and any bytes, ends, and keeps no state between calls.
+ * A node uses the five calls over its table: uj_open, uj_close, uj_send, uj_received, uj_tick. They write every telegram and check every telegram by
+ * themselves. The writers, the check and the check word also stand alone.
  *
- * Runs, of bytes or of records, are passed as a pointer and a length; the length of a table counts records. The pointer must be readable (for `out`
- * and `table`: writable) for that length; a null pointer goes only with length 0. `out` and `table` must not overlap each other or any other run of
- * the same call; runs that are only read may overlap each other. Nothing can check these two rules for you, and nothing else is asked of the caller.
+ * Every function here takes any numbers and any bytes, ends, and keeps nothing between two calls. Four rules on memory are yours; nothing can check
+ * them for you:
+ *   - Runs, of bytes or of records, are passed as a pointer and a length; the length of a table counts records. The pointer must be readable (for
+ *     `out` and `table`: writable) for that length; a null pointer goes only with length 0.
+ *   - `out` and `table` must not overlap each other or any other run of the same call. Runs that are only read may overlap each other.
+ *   - `table` is aligned as C aligns an array of uj_record. Runs of bytes may stand at any address.
+ *   - Until a call returns, no other thread and no interrupt changes a run that it was lent, or uses its `table` or `out`. There is no state of the
+ *     library's own, so calls with different tables and buffers need no lock. Threads that share a table hold one lock from the reading of the head to
+ *     the storing of the one that comes back.
  *
  * An end of a connection is named by five plain numbers, in this order:
  *   own          this node's bus address, 0..126
@@ -44,8 +50,32 @@ extern "C" {
 #define UJ_NO_RECORD 2u       /* calls: record number past the table, or no record matches the telegram */
 #define UJ_ENDED 8u           /* calls: the record is finally closed */
 #define UJ_WRONG_PHASE 3u     /* calls: open on a record not closed, send on one not open, close on a closed one */
-#define UJ_BAD_VALUE 5u       /* idle time, command, type, reason, or length of net data or text not allowed */
+#define UJ_BAD_VALUE 5u       /* idle time, command, new_setup, reason, or length of net data or text not allowed */
 #define UJ_FAILED 100u        /* the check: this number or a greater one means failed */
+
+/* Which answers there are beside UJ_DONE, in their order:
+ *   uj_write_request, uj_write_confirm, uj_write_disconnect, uj_write_data    1, 4, 5
+ *   uj_write_authentication, uj_write_acknowledgement, uj_write_idle          1, 4
+ *   uj_check                                                                  1, 6, then UJ_FAILED
+ *   uj_open, uj_close, uj_send                                                1, 4, 7, 2, 8, 3, 5
+ *   uj_received                                                               1, 4, 7, 6, 2, 8, 5
+ *   uj_tick                                                                   1, 4, 7, 2, 8
+ * The other functions refuse nothing. */
+
+/* New set-up desired (5.2.5.9, byte 3), the type of a disconnect: whether the connection may be set up anew. */
+#define UJ_FINAL 0u      /* it may not: final, the connection never opens again */
+#define UJ_NEW_SETUP 1u  /* it may, from either end */
+
+/* Reasons of a disconnect (5.2.5.9, byte 4). 20h..40h are of the layer above (5.2.5.9.1). */
+#define UJ_REASON_APPLICATION 0x00u     /* disconnect request from application */
+#define UJ_REASON_VERSION 0x01u         /* bad version error */
+#define UJ_REASON_SET_UP 0x02u          /* error during connection set-up */
+#define UJ_REASON_AUTHENTICATION 0x03u  /* authentication error */
+#define UJ_REASON_EXISTING 0x04u        /* connection set-up for existing connection */
+#define UJ_REASON_IDLE 0x05u            /* idle cycle time-out */
+#define UJ_REASON_INCORRECT_1ST 0x06u   /* 1st incorrect receive */
+#define UJ_REASON_INCORRECT_2ND 0x07u   /* 2nd incorrect receive */
+#define UJ_REASON_OTHER 0x1Fu           /* other reason of the Safe Link Layer */
 
 /* What a writer did. When `answer` is not UJ_DONE, `length` is 0 and nothing was written. When it is, the telegram stands in the first `length` bytes of
  * `out`, and the bytes behind it are as they were. */
@@ -68,10 +98,10 @@ uj_written uj_write_authentication(uint32_t own, uint32_t partner, uint32_t part
 uj_written uj_write_acknowledgement(uint32_t own, uint32_t partner, uint32_t partner_sap, uint32_t local_sap, uint32_t level, uint32_t number,
                                     uint32_t received, uint8_t *out, size_t out_length);
 
-/* Disconnect (5.2.5). `type` (new set-up desired): 0 final, 1 a new connection may be established. `reason`: 00h..07h, 1Fh, or 20h..40h of the layer
- * above. `text` of up to 40 bytes. */
-uj_written uj_write_disconnect(uint32_t own, uint32_t partner, uint32_t partner_sap, uint32_t local_sap, uint32_t level, uint32_t number, uint32_t type,
-                               uint32_t reason, const uint8_t *text, size_t text_length, uint8_t *out, size_t out_length);
+/* Disconnect (5.2.5). `new_setup` is UJ_FINAL or UJ_NEW_SETUP. `reason`: 00h..07h, 1Fh, or 20h..40h of the layer above. `text` of up to 40 bytes for
+ * diagnostics, written as they are. */
+uj_written uj_write_disconnect(uint32_t own, uint32_t partner, uint32_t partner_sap, uint32_t local_sap, uint32_t level, uint32_t number,
+                               uint32_t new_setup, uint32_t reason, const uint8_t *text, size_t text_length, uint8_t *out, size_t out_length);
 
 /* Idle (5.2.6). */
 uj_written uj_write_idle(uint32_t own, uint32_t partner, uint32_t partner_sap, uint32_t local_sap, uint32_t level, uint32_t number, uint8_t *out,
@@ -112,12 +142,27 @@ uint32_t uj_word32(const uint8_t *first, size_t first_length, const uint8_t *sec
  * Time is 64-bit milliseconds of a clock of yours that never goes back and never wraps. A time equal to the latest is allowed.
  *
  * A call that answers anything but UJ_DONE changes nothing: not the table, not the buffer, and the head comes back as it was. A call that answers
- * UJ_DONE changes at most one record. Store the head that comes back before the next call: it holds the latest time.
+ * UJ_DONE changes at most one record. Store the head that comes back before the next call: it holds the latest time, and with an older head the timers
+ * that the call has set are out of range, so that every later call answers UJ_OUT_OF_RANGE.
  *
  * A telegram written is yours to send: to the record's partner, with partner_sap as DSAP and local_sap as SSAP. After uj_received that is the sender
  * of the telegram received, with the two SAPs exchanged. Send it before the next call uses the buffer.
  *
- * Look at the event of every call: uj_received and uj_tick close a connection by themselves, with a disconnect telegram where the partner is to know.
+ * Look at the event of every call: uj_received and uj_tick close a connection by themselves, and write a disconnect with the reason, for the partner:
+ *   01h, finally  a confirm of another version than 3.0
+ *   02h           no confirm within 5,000 ms after our request
+ *   03h, finally  an error during authentication: no authentication or acknowledgement within 5,000 ms after what we sent last, another telegram in
+ *                 its place, or a wrong number in it
+ *   04h           a request, confirm, authentication or acknowledgement on an open connection
+ *   05h           the partner silent for longer than it declared
+ *   06h           a telegram that fails the check, in every phase but the closed ones
+ * Where uj_received tells UJ_EVENT_CLOSED and wrote no telegram, the partner's disconnect has closed the connection, and the reason is the partner's.
+ *
+ * Your duty, the second incorrect telegram: SUBSET-057 wants a connection to end for good when a second telegram fails the check within 25 s at level
+ * 4, within 64 s at level 2 (5.2.5.8.4, 11.3.5.1.2, 11.4.5.1.2). A record has no place for the time of the first, so the link closes with 06h each
+ * time, and the connection may open again. Count, for each connection, the times when uj_received closes with 06h by itself. At the second within the
+ * period end it: uj_open, then uj_close with UJ_FINAL and UJ_REASON_INCORRECT_2ND, both telegrams sent in that order, so that the partner ends it
+ * too. `node_received` of examples/node.c does this.
  */
 
 /* Phases of a record. A record of zeros is in none of them. */
@@ -187,7 +232,7 @@ typedef struct uj_happened {
     uint32_t command; /* the command's low six bits, 09h or 20h..3Fh */
     uint32_t start;
     uint32_t count;
-    uint32_t reason;  /* the reason of 5.2.5.9: ours, or the one that the partner's disconnect gives */
+    uint32_t reason;  /* the reason of 5.2.5.9: ours, or the one that the partner's disconnect gives, which may be any byte */
     uint32_t last;    /* 1: finally closed; 0: the record may be opened again */
 } uj_happened;
 
@@ -204,17 +249,25 @@ uj_head uj_new_head(uint32_t own);
 /* A closed record that has never been used. Both constructors take any numbers; the calls refuse what is out of range. */
 uj_record uj_fresh(uint32_t partner, uint32_t partner_sap, uint32_t local_sap, uint32_t level);
 
-/* In the calls: `table` of `count` records; `place` is a record's number in it, from 0 on. `random` is a random number, a new one for each call.
+/* In the calls: `table` of `count` records; `place` is a record's number in it, from 0 on. `out` needs room for UJ_LONGEST bytes in every call, also
+ * where no telegram is written.
+ *
+ * `random` becomes the number of our first telegram, and the partner proves by it that it heard us (5.3.1.2, 5.3.1.3). Give a new one to each call, from a
+ * generator that doesn't begin alike at every start of the card and that gives different connections different numbers (5.3.1.5). Where a number
+ * comes again, telegrams of an earlier connection can fit again. The library cannot see whether a number is new.
+ *
  * `named` is 0 where you name no idle time: then 500 is declared, and `idle_time` is not looked at. Any other `named` declares `idle_time`; naming 0
- * is naming one, and no idle telegrams are sent then. `out` needs room for UJ_LONGEST bytes in every call, also where no telegram is written. */
+ * is naming one, and no idle telegrams are sent then. */
 
 /* Opens a closed connection: a request goes out. `net` of up to 226 bytes at level 4, 228 at level 2 goes with it. UJ_EVENT_OPENED comes with a later
  * uj_received. */
 uj_outcome uj_open(uj_record *table, size_t count, uj_head head, uint64_t time, size_t place, uint32_t random, uint32_t named, uint32_t idle_time,
                    const uint8_t *net, size_t net_length, uint8_t *out, size_t out_length);
 
-/* Closes a connection in any phase but closed: a disconnect goes out. `new_setup` (5.2.5, the type): 0 final, the record never opens again; 1 a new
- * connection may be established. `reason`: 00h..07h, 1Fh, or 20h..40h of the layer above. `text` of up to 40 bytes. */
+/* Closes a connection in any phase but closed: a disconnect goes out. `new_setup`, the field New_setup_desired of 5.2.5.9: UJ_FINAL, and the record
+ * never opens again; or UJ_NEW_SETUP, and it may be opened again. `reason`: 00h..07h, 1Fh, or 20h..40h of the layer above. `text` of up to 40 bytes
+ * for diagnostics: written as they are, without an end mark. A disconnect that the link writes by itself has none. The event doesn't hand the text of
+ * a received disconnect up; uj_net_data finds it in the telegram. */
 uj_outcome uj_close(uj_record *table, size_t count, uj_head head, uint64_t time, size_t place, uint32_t new_setup, uint32_t reason,
                     const uint8_t *text, size_t text_length, uint8_t *out, size_t out_length);
 
@@ -226,7 +279,14 @@ uj_outcome uj_send(uj_record *table, size_t count, uj_head head, uint64_t time, 
  * `destination_sap` its local_sap; `source_sap` its partner_sap. All three are the bus driver's, as the frame had them. `random`, `named` with
  * `idle_time`, and `net` (limits of uj_open) are for a confirm, should the telegram be a good request; they are measured against their limits in any
  * case. A telegram that fails the check, comes too late or in a phase that is not for it brings no data: the record is closed, or the telegram
- * dropped, as 5.5 says. */
+ * dropped, as 5.5 says.
+ *
+ * The net data of a request or confirm are no event. Where uj_received wrote a confirm or an authentication, uj_net_data finds them in the telegram.
+ *
+ * A telegram that comes after its wait or after the partner's idle time isn't looked at, however good it is: the record closes. So an acknowledgement
+ * that is late by one millisecond closes finally (03h), and the disconnect ends the connection for the partner too, for whom it was already open. While
+ * the acknowledgement is awaited we send no idle telegrams, but the partner's watch runs from its acknowledgement on: where that may take longer to
+ * arrive than the idle time that you declare, declare a longer one, or the partner closes with 05h. */
 uj_outcome uj_received(uj_record *table, size_t count, uj_head head, uint64_t time, uint32_t sender, uint32_t destination_sap, uint32_t source_sap,
                        uint32_t random, uint32_t named, uint32_t idle_time, const uint8_t *telegram, size_t telegram_length, const uint8_t *net,
                        size_t net_length, uint8_t *out, size_t out_length);

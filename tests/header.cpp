@@ -18,7 +18,7 @@ static bool calls_answer()
     const uj_outcome opened = uj_open(table, 1, head, 1000, 0, 0x01234567, 0, 0, nullptr, 0, out, sizeof out);
     head = opened.head;
     const uj_outcome sent = uj_send(table, 1, head, 1000, 0, 0x09, nullptr, 0, out, sizeof out);
-    const uj_outcome closed = uj_close(table, 1, head, 1000, 0, 0, 0x00, nullptr, 0, out, sizeof out);
+    const uj_outcome closed = uj_close(table, 1, head, 1000, 0, UJ_FINAL, UJ_REASON_APPLICATION, nullptr, 0, out, sizeof out);
     head = closed.head;
     const uj_outcome ticked = uj_tick(table, 1, head, 1000, 0, out, sizeof out);
     const uj_outcome received = uj_received(table, 1, head, 1000, 1, 3, 3, 0, 0, 0, nullptr, 0, nullptr, 0, out, sizeof out);

@@ -174,6 +174,7 @@ pub fn random(tally: &mut Tally) {
         |case| case.compare(tally),
         |sent_by_partner| *if sent_by_partner { &mut own } else { &mut foreign } += 1,
     );
+    tally.drawn(calls);
     tally.hold(foreign == 0, || format!("{foreign} data that the partner of their record didn't send"));
     shares.demand(5, &wanted(), tally);
     shares.demand(

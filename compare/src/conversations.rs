@@ -3,7 +3,7 @@
 
 use crate::link_call::Call;
 use crate::link_case::{Case, Demand, Outcome};
-use crate::link_step::{Record, Step, CLOSED, FINALLY_CLOSED, OPEN};
+use crate::link_step::{Record, Step, Stepped, CLOSED, FINALLY_CLOSED, OPEN};
 use crate::random::{once_in, one_of, Random};
 use crate::random_calls::{around_limit, close, damaged, of_other_version, open, received, send, spoil_record, spoilt_call, RECORD_SPOILS};
 use crate::shares::Shares;
@@ -109,6 +109,7 @@ impl Conversation {
         let case = Case { step, before, demand };
         let spoils = once_in(random, 25);
         let case = if spoils { spoilt(case, random) } else { case };
+        tally.drawn(1);
         let outcome = case.compare(tally);
         shares.count_step(&case.step.record, &outcome.stepped);
         if !spoils {
@@ -148,16 +149,16 @@ impl Conversation {
     /// Takes over what a step gave: the record, the telegram for the bus, the data handed over. On a calm bus these are the partner's, in their order.
     fn done(&mut self, who: usize, call: &Call, outcome: &Outcome, tally: &mut Tally) {
         let partner = 1 - who;
-        let stepped = &outcome.stepped;
-        self.nodes[who].record = stepped.record;
-        if stepped.telegram != 0 {
+        let Stepped { record, answer, happened } = outcome.stepped;
+        self.nodes[who].record = record;
+        if answer.telegram != 0 {
             self.flying.push_back((partner, outcome.telegram().to_vec()));
         }
-        match (stepped.event, call) {
+        match (happened.event, call) {
             (1, _) => self.nodes[who].sent.clear(),
-            (0, Call::Send { net, .. }) if stepped.answer == 0 => self.nodes[who].sent.push_back(net.clone()),
+            (0, Call::Send { net, .. }) if answer.number == 0 => self.nodes[who].sent.push_back(net.clone()),
             (2, Call::Received { telegram, .. }) if self.faults.is_none() => {
-                let (start, count) = (stepped.start as usize, stepped.count as usize);
+                let (start, count) = (happened.start as usize, happened.count as usize);
                 let sent = self.nodes[partner].sent.pop_front();
                 tally.hold(sent.as_deref() == telegram.get(start..start + count), || {
                     format!("handed over {}, but sent {sent:X?}", hex(telegram))

@@ -46,7 +46,7 @@ pub struct Outcome {
 impl Outcome {
     /// The telegram that was written; nothing where none was.
     pub fn telegram(&self) -> &[u8] {
-        &self.after[..(self.stepped.length as usize).min(self.after.len())]
+        &self.after[..(self.stepped.answer.length as usize).min(self.after.len())]
     }
 
     fn tell(&self) -> String {
@@ -77,11 +77,11 @@ impl Case {
     /// Whether an outcome is what the papers demand. A refusal leaves record and buffer as they were; a telegram leaves what is behind it.
     fn met_by(&self, outcome: &Outcome) -> bool {
         let stepped = outcome.stepped;
-        let length = stepped.length as usize;
+        let length = stepped.answer.length as usize;
         match self.demand {
             Demand::Agree => true,
             Demand::Refused(answer) => stepped == Stepped::refused(self.step.record, answer) && outcome.after == self.before,
-            Demand::NotRefused => stepped.answer == 0,
+            Demand::NotRefused => stepped.answer.number == 0,
             Demand::Done(record, kind, event) => {
                 let written = kind.map(|kind| (kind, length));
                 stepped == Stepped::done(record, written, event) && kind.is_some() == (length > 0) && outcome.after[length..] == self.before[length..]

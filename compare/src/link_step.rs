@@ -105,14 +105,35 @@ impl Step {
     }
 }
 
-/// All that a step gives back but the buffer.
+/// The answer's number, and which telegram was written with its length; 0 and 0 where none was.
 #[repr(C)]
-#[derive(Clone, Copy, PartialEq, Debug)]
-pub struct Stepped {
-    pub record: Record,
-    pub answer: u32,
+#[derive(Clone, Copy, PartialEq, Debug, Default)]
+pub struct Answer {
+    pub number: u32,
     pub telegram: u32,
     pub length: u32,
+}
+
+impl Answer {
+    /// The number of a refusal.
+    pub fn refused(number: u32) -> Answer {
+        Answer { number, ..Answer::default() }
+    }
+
+    /// Done, with the kind and the length of the telegram that was written, if any.
+    fn done(written: Option<(Kind, usize)>) -> Answer {
+        written.map_or(Answer::default(), |(kind, length)| Answer {
+            number: 0,
+            telegram: kind_number(kind),
+            length: length as u32,
+        })
+    }
+}
+
+/// An event as plain numbers. What it doesn't name is 0.
+#[repr(C)]
+#[derive(Clone, Copy, PartialEq, Debug, Default)]
+pub struct Happened {
     pub event: u32,
     pub command: u32,
     pub start: u32,
@@ -121,51 +142,51 @@ pub struct Stepped {
     pub last: u32,
 }
 
-impl Stepped {
-    /// The number of a refusal with the record as it was. All else is 0.
-    pub fn refused(record: Record, answer: u32) -> Stepped {
-        Stepped {
-            record,
-            answer,
-            telegram: 0,
-            length: 0,
-            event: 0,
-            command: 0,
-            start: 0,
-            count: 0,
-            reason: 0,
-            last: 0,
-        }
-    }
-
-    /// A step that is done, with the kind and the length of the telegram that it wrote, if any. What isn't used is 0.
-    pub fn done(record: Record, written: Option<(Kind, usize)>, event: Event) -> Stepped {
-        let nothing = Stepped::refused(record, 0);
-        let written = match written {
-            None => nothing,
-            Some((kind, length)) => Stepped {
-                telegram: kind_number(kind),
-                length: length as u32,
-                ..nothing
-            },
-        };
+impl From<Event> for Happened {
+    fn from(event: Event) -> Happened {
+        let nothing = Happened::default();
         match event {
-            Event::Nothing => written,
-            Event::Opened => Stepped { event: 1, ..written },
-            Event::Data { command, start, count } => Stepped {
+            Event::Nothing => nothing,
+            Event::Opened => Happened { event: 1, ..nothing },
+            Event::Data { command, start, count } => Happened {
                 event: 2,
                 command,
                 start,
                 count,
-                ..written
+                ..nothing
             },
-            Event::Closed { reason, finally } => Stepped {
+            Event::Closed { reason, finally } => Happened {
                 event: 3,
                 reason,
                 last: u32::from(finally),
-                ..written
+                ..nothing
             },
         }
+    }
+}
+
+/// All that a step gives back but the buffer.
+#[repr(C)]
+#[derive(Clone, Copy, PartialEq, Debug)]
+pub struct Stepped {
+    pub record: Record,
+    pub answer: Answer,
+    pub happened: Happened,
+}
+
+impl Stepped {
+    /// The number of a refusal with the record as it was.
+    pub fn refused(record: Record, number: u32) -> Stepped {
+        let answer = Answer::refused(number);
+        let happened = Event::Nothing.into();
+        Stepped { record, answer, happened }
+    }
+
+    /// A step that is done, with the kind and the length of the telegram that it wrote, if any.
+    pub fn done(record: Record, written: Option<(Kind, usize)>, event: Event) -> Stepped {
+        let answer = Answer::done(written);
+        let happened = event.into();
+        Stepped { record, answer, happened }
     }
 }
 

@@ -38,7 +38,7 @@ impl SetUp {
         node.call = call;
         let stepped = (self.program)(node, &mut out);
         node.record = stepped.record;
-        out.truncate(stepped.length as usize);
+        out.truncate(stepped.answer.length as usize);
         (stepped, out)
     }
 }
@@ -88,7 +88,7 @@ fn printed_set_up(tally: &mut Tally) {
         tally.hold(fourth == acknowledgement.bytes, || format!("the {who} writes another acknowledgement"));
         let both_open = [opener, responder]
             .iter()
-            .all(|stepped| stepped.record.phase == OPEN && stepped.event == 1);
+            .all(|stepped| stepped.record.phase == OPEN && stepped.happened.event == 1);
         tally.hold(both_open && nothing.is_empty(), || format!("the {who} doesn't open at both ends"));
     }
     tally.told("set-up of 5.3.1.7: by both programs, from the request to open at both ends");

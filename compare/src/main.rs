@@ -1,5 +1,5 @@
-//! Compares the proved library with a second program that is written from the papers. Prints what was compared and how much of it, and fails where
-//! anything differs. With the word `vectors` it runs the published vectors alone.
+//! Compares the library of proved crates with a second program that is written from the papers. Prints what was compared and how much of it, and fails
+//! where anything differs. With the word `vectors` it runs the published vectors alone.
 
 mod bus;
 mod bus_run;

@@ -1,7 +1,7 @@
 //! A call of a node as the interface shows it: head, time, the record that it is about and the call to be made; and what comes back.
 
 use crate::link_call::Call;
-use crate::link_step::{Record, Stepped};
+use crate::link_step::{Answer, Event, Happened, Record, Stepped};
 
 /// What goes beside the table: the node's own address and the latest time seen.
 #[repr(C)]
@@ -46,25 +46,6 @@ pub struct Asked {
     pub call: Call,
 }
 
-#[repr(C)]
-#[derive(Clone, Copy, PartialEq, Debug)]
-pub struct Answer {
-    pub number: u32,
-    pub telegram: u32,
-    pub length: u32,
-}
-
-#[repr(C)]
-#[derive(Clone, Copy, PartialEq, Debug)]
-pub struct Happened {
-    pub event: u32,
-    pub command: u32,
-    pub start: u32,
-    pub count: u32,
-    pub reason: u32,
-    pub last: u32,
-}
-
 /// All that a call gives back but table and buffer.
 #[repr(C)]
 #[derive(Clone, Copy, PartialEq, Debug)]
@@ -75,56 +56,22 @@ pub struct Answered {
 }
 
 impl Answered {
-    /// The number of a refusal with the head as it was. All else is 0.
+    /// The number of a refusal with the head as it was.
     pub fn refused(head: Head, number: u32) -> Answered {
-        let answer = Answer {
-            number,
-            telegram: 0,
-            length: 0,
-        };
-        let happened = Happened {
-            event: 0,
-            command: 0,
-            start: 0,
-            count: 0,
-            reason: 0,
-            last: 0,
-        };
+        let answer = Answer::refused(number);
+        let happened = Event::Nothing.into();
         Answered { head, answer, happened }
     }
 
     /// What a step gave, with the head after it.
     pub fn done(head: Head, stepped: &Stepped) -> Answered {
-        let answer = Answer {
-            number: stepped.answer,
-            telegram: stepped.telegram,
-            length: stepped.length,
-        };
-        let happened = Happened {
-            event: stepped.event,
-            command: stepped.command,
-            start: stepped.start,
-            count: stepped.count,
-            reason: stepped.reason,
-            last: stepped.last,
-        };
+        let Stepped { answer, happened, .. } = *stepped;
         Answered { head, answer, happened }
     }
 
     /// The same as a step of the record that is left.
     pub fn stepped(&self, record: Record) -> Stepped {
         let Answered { answer, happened, .. } = *self;
-        Stepped {
-            record,
-            answer: answer.number,
-            telegram: answer.telegram,
-            length: answer.length,
-            event: happened.event,
-            command: happened.command,
-            start: happened.start,
-            count: happened.count,
-            reason: happened.reason,
-            last: happened.last,
-        }
+        Stepped { record, answer, happened }
     }
 }

@@ -1,6 +1,6 @@
 //! How often each thing happened in a run of random calls, so that a reader sees what it reaches, and a run that doesn't reach it fails.
 
-use crate::link_step::{Record, Stepped, ACKNOWLEDGEMENT_AWAITED, AUTHENTICATION_AWAITED, CLOSED, CONFIRM_AWAITED, FINALLY_CLOSED, OPEN};
+use crate::link_step::{Happened, Record, Stepped, ACKNOWLEDGEMENT_AWAITED, AUTHENTICATION_AWAITED, CLOSED, CONFIRM_AWAITED, FINALLY_CLOSED, OPEN};
 use crate::tally::Tally;
 use std::collections::BTreeMap;
 
@@ -15,15 +15,16 @@ impl Shares {
 
     /// Counts a step of a record.
     pub fn count_step(&mut self, before: &Record, stepped: &Stepped) {
+        let Stepped { record, answer, happened } = stepped;
         let order = before.phase.wrapping_sub(1).min(6);
         self.count(order, steps_name(before.phase));
-        self.count(10, format!("answer {}", stepped.answer));
-        if stepped.telegram != 0 {
-            self.count(20 + stepped.telegram, format!("{} written", telegram_name(stepped.telegram)));
+        self.count(10, format!("answer {}", answer.number));
+        if answer.telegram != 0 {
+            self.count(20 + answer.telegram, format!("{} written", telegram_name(answer.telegram)));
         }
-        if stepped.answer == 0 {
-            self.count(30 + stepped.event + stepped.last, event_name(stepped));
-            self.count_wraps(before, &stepped.record);
+        if answer.number == 0 {
+            self.count(30 + happened.event + happened.last, event_name(happened));
+            self.count_wraps(before, record);
         }
     }
 
@@ -78,9 +79,9 @@ fn telegram_name(number: u32) -> &'static str {
 }
 
 /// The reasons of the layer above are told as one.
-fn event_name(stepped: &Stepped) -> String {
-    let finally = if stepped.last == 1 { ", finally" } else { "" };
-    match (stepped.event, stepped.reason) {
+fn event_name(happened: &Happened) -> String {
+    let finally = if happened.last == 1 { ", finally" } else { "" };
+    match (happened.event, happened.reason) {
         (0, _) => "event nothing".into(),
         (1, _) => "event opened".into(),
         (2, _) => "event data".into(),

@@ -1,9 +1,11 @@
-//! Counts comparisons and tells those that fail.
+//! Counts vectors, random cases and comparisons, and tells the comparisons that fail.
 
 use std::process::ExitCode;
 
 #[derive(Default)]
 pub struct Tally {
+    vectors: usize,
+    random: usize,
     compared: u64,
     failed: u64,
     section: u64,
@@ -21,6 +23,16 @@ impl Tally {
         }
     }
 
+    /// One check word or telegram that SUBSET-057 prints.
+    pub fn printed(&mut self) {
+        self.vectors += 1;
+    }
+
+    /// Cases that were drawn at random.
+    pub fn drawn(&mut self, cases: usize) {
+        self.random += cases;
+    }
+
     /// Ends a group of comparisons with a line that says how many there were.
     pub fn told(&mut self, what: &str) {
         println!("{:>9}  {what}", self.compared - self.section);
@@ -28,8 +40,15 @@ impl Tally {
     }
 
     pub fn finish(self) -> ExitCode {
-        println!("compare: {} comparisons, {} differ", self.compared, self.failed);
-        if self.failed == 0 && self.compared > 0 {
+        let Tally {
+            vectors,
+            random,
+            compared,
+            failed,
+            ..
+        } = self;
+        println!("compare: {vectors} vectors, {random} random cases, {compared} comparisons, {failed} differ");
+        if failed == 0 && compared > 0 {
             ExitCode::SUCCESS
         } else {
             ExitCode::FAILURE

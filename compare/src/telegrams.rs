@@ -28,6 +28,7 @@ fn telegram_by(program: &Program, sender: &End, telegram: &Telegram) -> Vec<u8> 
 pub fn vectors(tally: &mut Tally) {
     println!("{:<11}{:<31}whole telegram", "clause", "");
     for p in printed() {
+        tally.printed();
         println!("{:<11}{:<31}{}  printed", p.clause, p.what, hex(p.bytes));
         for (who, program) in PROGRAMS {
             let bytes = telegram_by(&program, &p.sender, &p.telegram);
@@ -44,6 +45,7 @@ pub fn vectors(tally: &mut Tally) {
 /// 5.3.1.8 prints the length 08h for a telegram of six bytes. What is written differs from it in the check word, and what is printed doesn't pass.
 fn idle_vector(tally: &mut Tally) {
     let (clause, what) = ("5.3.1.8", "idle, SL 2");
+    tally.printed();
     println!("{clause:<11}{what:<31}{}  printed, for the length 08h", hex(&IDLE_PRINTED));
     let without_word = &IDLE_PRINTED[..2];
     let word = word_bytes(SL2, &[&IDLE_IMPLICIT, without_word].concat());
@@ -186,6 +188,7 @@ pub fn random(tally: &mut Tally) {
     let mut shares = Shares::default();
     for made in CASES.iter().cycle().take(RANDOM_CASES) {
         let case = made(&mut random);
+        tally.drawn(1);
         let outcome = case.compare(tally);
         shares.count(&outcome);
         if let Some(check) = check_of(&case, &outcome) {

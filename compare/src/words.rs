@@ -36,6 +36,7 @@ fn low_bytes(number: u64, count: usize) -> Vec<u8> {
 pub fn vectors(tally: &mut Tally) {
     println!("{:<11}{:<31}{:<19}{:<19}second program", "clause", "", "printed", "library");
     for v in published() {
+        tally.printed();
         let message = [v.implicit, v.telegram].concat();
         let count = v.generator.bytes();
         let library = low_bytes(library_word(v.generator, v.implicit, v.telegram), count);
@@ -118,6 +119,7 @@ pub fn random_strings(tally: &mut Tally) {
         let length = random.upto(252);
         let message = random.bytes(length);
         let cut = random.upto(length);
+        tally.drawn(1);
         for generator in LEVELS {
             tally.hold(library_cut(generator, &message, cut) == word(generator, &message), || {
                 format!("{} bits, cut at {cut}: {}", generator.width, hex(&message))
@@ -140,6 +142,7 @@ pub fn law(tally: &mut Tally) {
         let length = random.upto(252);
         let [a, b, c] = [random.bytes(length), random.bytes(length), random.bytes(length)];
         let d = xor(&c, &xor(&a, &b));
+        tally.drawn(1);
         for generator in LEVELS {
             let of = |s: &[u8]| library_cut(generator, s, length / 3);
             tally.hold(of(&a) ^ of(&b) == of(&xor(&a, &b)), || format!("the law at {} and {}", hex(&a), hex(&b)));
@@ -171,6 +174,7 @@ pub fn burst(tally: &mut Tally) {
             let a = random.bytes(length);
             let mut b = a.clone();
             (0..count).for_each(|k| b[start + k] ^= difference[k]);
+            tally.drawn(1);
             tally.hold(library_cut(generator, &a, start) != library_cut(generator, &b, start), || {
                 format!("{} bits: {} and {}", generator.width, hex(&a), hex(&b))
             });
@@ -195,6 +199,7 @@ pub fn whole_message(tally: &mut Tally) {
     for _ in 0..10_000 {
         let length = random.upto(240);
         let message = random.bytes(length);
+        tally.drawn(1);
         for generator in LEVELS {
             let check = low_bytes(library_cut(generator, &message, length / 2), generator.bytes());
             tally.hold(library_word(generator, &message, &check) == 0, || format!("not 0: {}", hex(&message)));

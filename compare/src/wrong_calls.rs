@@ -86,7 +86,7 @@ fn bad_value(step: &Step) -> bool {
         own: step.own,
         call: step.call.clone().with_telegram(vec![0; 6]),
     };
-    SECOND(&good, &mut [0; LONGEST]).answer == 5
+    SECOND(&good, &mut [0; LONGEST]).answer.number == 5
 }
 
 fn orders() -> Vec<Wrong> {
@@ -99,31 +99,51 @@ fn orders() -> Vec<Wrong> {
         instead(
             "6 before 4",
             order,
-            |step, stepped| stepped.answer == 4 && bad_telegram(step),
+            |step, stepped| stepped.answer.number == 4 && bad_telegram(step),
             refusing(6),
         ),
         instead(
             "8 before 6",
             order,
-            |step, stepped| stepped.answer == 6 && step.record.phase == FINALLY_CLOSED,
+            |step, stepped| stepped.answer.number == 6 && step.record.phase == FINALLY_CLOSED,
             refusing(8),
         ),
         instead(
             "8 before 4",
             order,
-            |step, stepped| stepped.answer == 4 && step.record.phase == FINALLY_CLOSED,
+            |step, stepped| stepped.answer.number == 4 && step.record.phase == FINALLY_CLOSED,
             refusing(8),
         ),
         instead(
             "3 before 8",
             order,
-            |step, stepped| stepped.answer == 8 && matches!(step.call, Call::Open { .. } | Call::Send { .. }),
+            |step, stepped| stepped.answer.number == 8 && matches!(step.call, Call::Open { .. } | Call::Send { .. }),
             refusing(3),
         ),
-        instead("5 before 3", order, |step, stepped| stepped.answer == 3 && bad_value(step), refusing(5)),
-        instead("5 before 8", order, |step, stepped| stepped.answer == 8 && bad_value(step), refusing(5)),
-        instead("5 before 6", order, |step, stepped| stepped.answer == 6 && bad_value(step), refusing(5)),
-        instead("5 before 4", order, |step, stepped| stepped.answer == 4 && bad_value(step), refusing(5)),
+        instead(
+            "5 before 3",
+            order,
+            |step, stepped| stepped.answer.number == 3 && bad_value(step),
+            refusing(5),
+        ),
+        instead(
+            "5 before 8",
+            order,
+            |step, stepped| stepped.answer.number == 8 && bad_value(step),
+            refusing(5),
+        ),
+        instead(
+            "5 before 6",
+            order,
+            |step, stepped| stepped.answer.number == 6 && bad_value(step),
+            refusing(5),
+        ),
+        instead(
+            "5 before 4",
+            order,
+            |step, stepped| stepped.answer.number == 4 && bad_value(step),
+            refusing(5),
+        ),
     ]
 }
 
@@ -136,25 +156,25 @@ fn refusals() -> Vec<Wrong> {
         instead(
             "close on a finally closed record answered with 3",
             phases,
-            |step, stepped| stepped.answer == 8 && matches!(step.call, Call::Close { .. }),
+            |step, stepped| stepped.answer.number == 8 && matches!(step.call, Call::Close { .. }),
             refusing(3),
         ),
         instead(
             "a telegram to a finally closed record dropped",
             phases,
-            |step, stepped| stepped.answer == 8 && is_receipt(step),
+            |step, stepped| stepped.answer.number == 8 && is_receipt(step),
             refusing(0),
         ),
         instead(
             "a tick of a finally closed record done",
             phases,
-            |step, stepped| stepped.answer == 8 && is_tick(step),
+            |step, stepped| stepped.answer.number == 8 && is_tick(step),
             refusing(0),
         ),
         instead(
             "close on a closed record done",
             phases,
-            |step, stepped| stepped.answer == 3 && matches!(step.call, Call::Close { .. }),
+            |step, stepped| stepped.answer.number == 3 && matches!(step.call, Call::Close { .. }),
             refusing(0),
         ),
         reads("a finally closed record that opens", phases, |step| {
@@ -197,35 +217,35 @@ fn buffers() -> Vec<Wrong> {
         }),
         wrong("a buffer cleared behind the telegram", link_refusals::rooms, |step, out| {
             let stepped = SECOND(step, out);
-            if stepped.telegram != 0 {
-                out[stepped.length as usize..].fill(0);
+            if stepped.answer.telegram != 0 {
+                out[stepped.answer.length as usize..].fill(0);
             }
             stepped
         }),
         wrong("a buffer cleared where nothing is written", link_refusals::phases, |step, out| {
             let stepped = SECOND(step, out);
-            if stepped.answer == 0 && stepped.telegram == 0 {
+            if stepped.answer.number == 0 && stepped.answer.telegram == 0 {
                 out.fill(0);
             }
             stepped
         }),
         wrong("a buffer cleared by a refusal", link_refusals::order, |step, out| {
             let stepped = SECOND(step, out);
-            if stepped.answer != 0 {
+            if stepped.answer.number != 0 {
                 out.fill(0);
             }
             stepped
         }),
         wrong("a record cleared by a refusal", link_refusals::order, |step, out| {
             let stepped = SECOND(step, out);
-            match stepped.answer {
+            match stepped.answer.number {
                 0 => stepped,
                 answer => Stepped::refused(Record::closed(&step.end(), CLOSED), answer),
             }
         }),
         wrong("a step that needs room only where it writes", link_refusals::rooms, |step, out| {
             let stepped = SECOND(step, &mut [0; LONGEST]);
-            match (stepped.answer, stepped.telegram) {
+            match (stepped.answer.number, stepped.answer.telegram) {
                 (0, 0) => stepped,
                 _ => SECOND(step, out),
             }
@@ -237,47 +257,47 @@ fn events() -> Vec<Wrong> {
     let phases = link_cases::phases_and_telegrams;
     vec![
         gives_back("data told with the level's bits", phases, |step, stepped| {
-            if stepped.event == EVENT_DATA {
-                stepped.command = u32::from(step.call.telegram()[1]);
+            if stepped.happened.event == EVENT_DATA {
+                stepped.happened.command = u32::from(step.call.telegram()[1]);
             }
         }),
         gives_back("data told with the check word", phases, |step, stepped| {
-            if stepped.event == EVENT_DATA {
-                stepped.count = step.call.telegram().len() as u32 - stepped.start;
+            if stepped.happened.event == EVENT_DATA {
+                stepped.happened.count = step.call.telegram().len() as u32 - stepped.happened.start;
             }
         }),
         gives_back("data without net data told as nothing", link_cases::net_lengths_received, |_, stepped| {
-            if stepped.event == EVENT_DATA && stepped.count == 0 {
-                stepped.event = 0;
-                stepped.command = 0;
-                stepped.start = 0;
+            if stepped.happened.event == EVENT_DATA && stepped.happened.count == 0 {
+                stepped.happened.event = 0;
+                stepped.happened.command = 0;
+                stepped.happened.start = 0;
             }
         }),
         gives_back("idle told as data", phases, |step, stepped| {
-            if is_open(step) && is_receipt(step) && stepped.event == 0 {
-                stepped.event = EVENT_DATA;
+            if is_open(step) && is_receipt(step) && stepped.happened.event == 0 {
+                stepped.happened.event = EVENT_DATA;
             }
         }),
         gives_back("opened told when a request is accepted", phases, |_, stepped| {
-            if stepped.telegram == WROTE_CONFIRM {
-                stepped.event = EVENT_OPENED;
+            if stepped.answer.telegram == WROTE_CONFIRM {
+                stepped.happened.event = EVENT_OPENED;
             }
         }),
         gives_back("opened told by the opener alone", phases, |_, stepped| {
-            if stepped.telegram == WROTE_ACKNOWLEDGEMENT {
-                stepped.event = 0;
+            if stepped.answer.telegram == WROTE_ACKNOWLEDGEMENT {
+                stepped.happened.event = 0;
             }
         }),
         gives_back("a closing by close told as nothing", link_refusals::types_and_reasons, |step, stepped| {
             if let Call::Close { .. } = step.call {
-                stepped.event = 0;
-                stepped.reason = 0;
-                stepped.last = 0;
+                stepped.happened.event = 0;
+                stepped.happened.reason = 0;
+                stepped.happened.last = 0;
             }
         }),
-        gives_back("a closing told without its type", phases, |_, stepped| stepped.last = 0),
+        gives_back("a closing told without its type", phases, |_, stepped| stepped.happened.last = 0),
         gives_back("the command of send told back", link_refusals::phases, |step, stepped| {
-            stepped.command |= step.call.command();
+            stepped.happened.command |= step.call.command();
         }),
     ]
 }

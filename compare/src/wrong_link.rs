@@ -4,7 +4,7 @@
 use crate::check::{check, Verdict};
 use crate::link_call::Call;
 use crate::link_case::{Case, Program, SECOND};
-use crate::link_step::{Record, Step, Stepped, CONFIRM_AWAITED, OPEN};
+use crate::link_step::{Answer, Record, Step, Stepped, CONFIRM_AWAITED, OPEN};
 use crate::telegram::{written, End, Telegram, LONGEST};
 
 pub struct Wrong {
@@ -38,7 +38,7 @@ pub fn reads(what: &'static str, seen_by: Group, change: fn(&mut Step)) -> Wrong
         let mut other = step.clone();
         change(&mut other);
         let stepped = SECOND(&other, out);
-        let record = match stepped.event {
+        let record = match stepped.happened.event {
             EVENT_CLOSED => stepped.record.between(&step.end()),
             _ => put_back(step.record, other.record, stepped.record),
         };
@@ -74,7 +74,7 @@ fn put_back(before: Record, changed: Record, after: Record) -> Record {
 pub fn gives_back(what: &'static str, seen_by: Group, change: fn(&Step, &mut Stepped)) -> Wrong {
     wrong(what, seen_by, move |step, out| {
         let mut stepped = SECOND(step, out);
-        if stepped.answer == 0 {
+        if stepped.answer.number == 0 {
             change(step, &mut stepped);
         }
         stepped
@@ -102,16 +102,17 @@ pub fn writes(what: &'static str, seen_by: Group, other: fn(&Step, &Stepped) -> 
     wrong(what, seen_by, move |step, out| {
         let stepped = SECOND(step, out);
         let (number, telegram) = match other(step, &stepped) {
-            Some(other) if stepped.answer == 0 => other,
+            Some(other) if stepped.answer.number == 0 => other,
             _ => return stepped,
         };
         let bytes = written(&step.end(), &telegram, LONGEST).unwrap_or_default();
         out[..bytes.len()].copy_from_slice(&bytes);
-        Stepped {
+        let answer = Answer {
             telegram: number,
             length: bytes.len() as u32,
-            ..stepped
-        }
+            ..stepped.answer
+        };
+        Stepped { answer, ..stepped }
     })
 }
 

@@ -4,7 +4,9 @@
 use crate::check::{check, field, Verdict};
 use crate::link_call::Call;
 use crate::link_case::SECOND;
-use crate::link_step::{Record, Step, Stepped, ACKNOWLEDGEMENT_AWAITED, AUTHENTICATION_AWAITED, CLOSED, CONFIRM_AWAITED, FINALLY_CLOSED, OPEN};
+use crate::link_step::{
+    Answer, Record, Step, Stepped, ACKNOWLEDGEMENT_AWAITED, AUTHENTICATION_AWAITED, CLOSED, CONFIRM_AWAITED, FINALLY_CLOSED, OPEN,
+};
 use crate::telegram::{reason_listed, sealed, End, Level, Telegram};
 use crate::wrong_link::*;
 use crate::{link_cases, link_times};
@@ -106,7 +108,7 @@ fn times() -> Vec<Wrong> {
             link_times::send_and_close_late,
             |step, stepped| {
                 let late = step.record.watched != 0 && since_taken(step) > u64::from(step.record.watched);
-                stepped.answer == 0 && late && matches!(step.call, Call::Send { .. })
+                stepped.answer.number == 0 && late && matches!(step.call, Call::Send { .. })
             },
             closing(1, 0x05),
         ),
@@ -162,8 +164,8 @@ fn idle() -> Vec<Wrong> {
 
 /// The disconnect that a wrong connection writes in place of the second program's.
 fn disconnect(number: u32, new_setup: u32, stepped: &Stepped) -> Option<(u32, Telegram)> {
-    let telegram = Telegram::disconnect(number, new_setup, stepped.reason, vec![]);
-    (stepped.telegram == WROTE_DISCONNECT).then(|| (WROTE_DISCONNECT, telegram))
+    let telegram = Telegram::disconnect(number, new_setup, stepped.happened.reason, vec![]);
+    (stepped.answer.telegram == WROTE_DISCONNECT).then(|| (WROTE_DISCONNECT, telegram))
 }
 
 fn closings() -> Vec<Wrong> {
@@ -172,80 +174,85 @@ fn closings() -> Vec<Wrong> {
     let failing = link_cases::phases_and_failing_telegrams;
     vec![
         writes("a disconnect with the number after closing", waits, |_, stepped| {
-            disconnect(stepped.record.sending, 1 - stepped.last, stepped)
+            disconnect(stepped.record.sending, 1 - stepped.happened.last, stepped)
         }),
         writes("a disconnect with the next number", waits, |step, stepped| {
-            disconnect(step.record.sending.wrapping_add(1), 1 - stepped.last, stepped)
+            disconnect(step.record.sending.wrapping_add(1), 1 - stepped.happened.last, stepped)
         }),
         writes("every disconnect of type 1", waits, |step, stepped| {
             disconnect(step.record.sending, 1, stepped)
         }),
         writes("the text left out by close", link_cases::numbers, |step, stepped| {
-            disconnect(step.record.sending, 1 - stepped.last, stepped)
+            disconnect(step.record.sending, 1 - stepped.happened.last, stepped)
         }),
         gives_back("a final closing that leaves phase 1", phases, |_, stepped| {
-            if stepped.event == EVENT_CLOSED {
+            if stepped.happened.event == EVENT_CLOSED {
                 stepped.record.phase = CLOSED;
             }
         }),
         gives_back("a closing that leaves the numbers", phases, |step, stepped| {
-            if stepped.event == EVENT_CLOSED {
+            if stepped.happened.event == EVENT_CLOSED {
                 stepped.record.sending = step.record.sending;
                 stepped.record.expected = step.record.expected;
             }
         }),
         gives_back("a closing that leaves the idle times", phases, |step, stepped| {
-            if stepped.event == EVENT_CLOSED {
+            if stepped.happened.event == EVENT_CLOSED {
                 stepped.record.declared = step.record.declared;
                 stepped.record.watched = step.record.watched;
             }
         }),
         gives_back("a closing that sets its timer", phases, |step, stepped| {
-            if stepped.event == EVENT_CLOSED {
+            if stepped.happened.event == EVENT_CLOSED {
                 stepped.record.sent_at = step.call.time();
             }
         }),
         instead(
             "an authentication error that doesn't close finally",
             phases,
-            |_, stepped| stepped.reason == 0x03 && stepped.telegram == WROTE_DISCONNECT,
+            |_, stepped| stepped.happened.reason == 0x03 && stepped.answer.telegram == WROTE_DISCONNECT,
             closing(1, 0x03),
         ),
         instead(
             "a late confirm that closes finally",
             phases,
-            |_, stepped| stepped.reason == 0x02 && stepped.telegram == WROTE_DISCONNECT,
+            |_, stepped| stepped.happened.reason == 0x02 && stepped.answer.telegram == WROTE_DISCONNECT,
             closing(0, 0x02),
         ),
         instead(
             "a watch run out that closes finally",
             phases,
-            |_, stepped| stepped.reason == 0x05 && stepped.telegram == WROTE_DISCONNECT,
+            |_, stepped| stepped.happened.reason == 0x05 && stepped.answer.telegram == WROTE_DISCONNECT,
             closing(0, 0x05),
         ),
         instead(
             "a failed check during authentication that closes finally with 03h",
             failing,
-            |step, stepped| stepped.reason == 0x06 && step.record.phase > CONFIRM_AWAITED && !is_open(step),
+            |step, stepped| stepped.happened.reason == 0x06 && step.record.phase > CONFIRM_AWAITED && !is_open(step),
             closing(0, 0x03),
         ),
         instead(
             "a failed check that closes finally with 07h",
             failing,
-            |_, stepped| stepped.reason == 0x06,
+            |_, stepped| stepped.happened.reason == 0x06,
             closing(0, 0x07),
         ),
-        instead("a failed check dropped", failing, |_, stepped| stepped.reason == 0x06, refusing(0)),
+        instead(
+            "a failed check dropped",
+            failing,
+            |_, stepped| stepped.happened.reason == 0x06,
+            refusing(0),
+        ),
         wrong("a failed check without a disconnect", failing, |step, out| {
             let stepped = SECOND(step, &mut out.to_vec());
-            let (telegram, length) = (0, 0);
-            match stepped.reason {
-                0x06 => Stepped { telegram, length, ..stepped },
+            let answer = Answer::default();
+            match stepped.happened.reason {
+                0x06 => Stepped { answer, ..stepped },
                 _ => SECOND(step, out),
             }
         }),
         writes("a disconnect of a closed record", failing, |step, stepped| {
-            let dropped = step.record.phase == CLOSED && is_receipt(step) && stepped.telegram == 0;
+            let dropped = step.record.phase == CLOSED && is_receipt(step) && stepped.answer.telegram == 0;
             dropped.then(|| (WROTE_DISCONNECT, Telegram::disconnect(0, 1, 0x06, vec![])))
         }),
     ]
@@ -253,7 +260,7 @@ fn closings() -> Vec<Wrong> {
 
 /// Whether the partner's disconnect has closed the record.
 fn ended(stepped: &Stepped) -> bool {
-    stepped.event == EVENT_CLOSED && stepped.telegram == 0
+    stepped.happened.event == EVENT_CLOSED && stepped.answer.telegram == 0
 }
 
 fn disconnects() -> Vec<Wrong> {
@@ -262,7 +269,7 @@ fn disconnects() -> Vec<Wrong> {
         gives_back("a disconnect received that never closes finally", disconnects, |_, stepped| {
             if ended(stepped) {
                 stepped.record.phase = CLOSED;
-                stepped.last = 0;
+                stepped.happened.last = 0;
             }
         }),
         writes("a disconnect received that is answered by one", disconnects, |step, stepped| {
@@ -272,7 +279,7 @@ fn disconnects() -> Vec<Wrong> {
         instead(
             "a disconnect with an unlisted reason that fails the check",
             disconnects,
-            |_, stepped| ended(stepped) && !reason_listed(stepped.reason),
+            |_, stepped| ended(stepped) && !reason_listed(stepped.happened.reason),
             closing(1, 0x06),
         ),
         instead(
@@ -290,31 +297,31 @@ fn unexpected() -> Vec<Wrong> {
         instead(
             "a request that closes while a confirm is awaited",
             phases,
-            |step, stepped| step.record.phase == CONFIRM_AWAITED && stepped.event == 0 && is_good(step, 0x00),
+            |step, stepped| step.record.phase == CONFIRM_AWAITED && stepped.happened.event == 0 && is_good(step, 0x00),
             closing(1, 0x04),
         ),
         instead(
             "data that close while a confirm is awaited",
             phases,
-            |step, stepped| step.record.phase == CONFIRM_AWAITED && stepped.event == 0 && is_good(step, 0x2A),
+            |step, stepped| step.record.phase == CONFIRM_AWAITED && stepped.happened.event == 0 && is_good(step, 0x2A),
             closing(0, 0x03),
         ),
         instead(
             "idle dropped while authentication is awaited",
             phases,
-            |step, stepped| step.record.phase == AUTHENTICATION_AWAITED && stepped.reason == 0x03 && is_good(step, 0x06),
+            |step, stepped| step.record.phase == AUTHENTICATION_AWAITED && stepped.happened.reason == 0x03 && is_good(step, 0x06),
             refusing(0),
         ),
         instead(
             "a request on an open record that is dropped",
             phases,
-            |step, stepped| stepped.reason == 0x04 && is_good(step, 0x00),
+            |step, stepped| stepped.happened.reason == 0x04 && is_good(step, 0x00),
             refusing(0),
         ),
         instead(
             "a request on an open record that sets up anew",
             phases,
-            |step, stepped| stepped.reason == 0x04 && is_good(step, 0x00),
+            |step, stepped| stepped.happened.reason == 0x04 && is_good(step, 0x00),
             |step, out| {
                 let record = Record::closed(&step.end(), CLOSED);
                 SECOND(&Step { record, ..step.clone() }, out)
@@ -323,13 +330,13 @@ fn unexpected() -> Vec<Wrong> {
         instead(
             "a request on an open record that closes finally",
             phases,
-            |step, stepped| stepped.reason == 0x04 && is_good(step, 0x00),
+            |step, stepped| stepped.happened.reason == 0x04 && is_good(step, 0x00),
             closing(0, 0x04),
         ),
         instead(
             "an acknowledgement on an open record that is dropped",
             phases,
-            |step, stepped| stepped.reason == 0x04 && is_good(step, 0x04),
+            |step, stepped| stepped.happened.reason == 0x04 && is_good(step, 0x04),
             refusing(0),
         ),
     ]
@@ -364,27 +371,27 @@ fn versions() -> Vec<Wrong> {
         instead(
             "a Z other than 0 not accepted",
             versions,
-            |step, stepped| stepped.telegram == WROTE_CONFIRM && step.call.telegram()[10] != 0,
+            |step, stepped| stepped.answer.telegram == WROTE_CONFIRM && step.call.telegram()[10] != 0,
             refusing(0),
         ),
         instead(
             "a confirm of another version that closes not finally",
             versions,
-            |_, stepped| stepped.reason == 0x01,
+            |_, stepped| stepped.happened.reason == 0x01,
             closing(1, 0x01),
         ),
         instead(
             "a confirm of another version dropped",
             versions,
-            |_, stepped| stepped.reason == 0x01,
+            |_, stepped| stepped.happened.reason == 0x01,
             refusing(0),
         ),
         gives_back("a request of another version that closes", versions, |step, stepped| {
-            if step.record.phase == CLOSED && stepped.telegram == 0 && is_good(step, 0x00) {
+            if step.record.phase == CLOSED && stepped.answer.telegram == 0 && is_good(step, 0x00) {
                 stepped.record.phase = FINALLY_CLOSED;
-                stepped.event = EVENT_CLOSED;
-                stepped.reason = 0x01;
-                stepped.last = 1;
+                stepped.happened.event = EVENT_CLOSED;
+                stepped.happened.reason = 0x01;
+                stepped.happened.last = 1;
             }
         }),
     ]
@@ -404,17 +411,17 @@ fn numbers() -> Vec<Wrong> {
             }
         }),
         gives_back("idle taken without advancing", numbers, |step, stepped| {
-            if stayed_open(step, stepped) && is_receipt(step) && stepped.event == 0 {
+            if stayed_open(step, stepped) && is_receipt(step) && stepped.happened.event == 0 {
                 stepped.record.expected = step.record.expected;
             }
         }),
         gives_back("an authentication taken without advancing", numbers, |step, stepped| {
-            if stepped.telegram == WROTE_ACKNOWLEDGEMENT {
+            if stepped.answer.telegram == WROTE_ACKNOWLEDGEMENT {
                 stepped.record.expected = step.record.expected;
             }
         }),
         gives_back("an acknowledgement taken without advancing", numbers, |step, stepped| {
-            if stepped.event == EVENT_OPENED && stepped.telegram == 0 {
+            if stepped.happened.event == EVENT_OPENED && stepped.answer.telegram == 0 {
                 stepped.record.expected = step.record.expected;
             }
         }),
@@ -424,7 +431,7 @@ fn numbers() -> Vec<Wrong> {
             }
         }),
         gives_back("idle sent without advancing", numbers, |step, stepped| {
-            if stepped.telegram == WROTE_IDLE {
+            if stepped.answer.telegram == WROTE_IDLE {
                 stepped.record.sending = step.record.sending;
             }
         }),
@@ -439,7 +446,7 @@ fn numbers() -> Vec<Wrong> {
             }
         }),
         gives_back("the random number kept as the number to send", numbers, |step, stepped| {
-            if step.record.phase == CLOSED && stepped.telegram != 0 {
+            if step.record.phase == CLOSED && stepped.answer.telegram != 0 {
                 stepped.record.sending = step.call.random();
             }
         }),
@@ -454,7 +461,7 @@ fn numbers() -> Vec<Wrong> {
             link_cases::confirm_awaited,
             |step, stepped| {
                 let passes = check(&step.end(), step.record.expected, step.call.telegram()) == Verdict::Passes;
-                step.record.phase == CONFIRM_AWAITED && stepped.reason == 0x06 && passes
+                step.record.phase == CONFIRM_AWAITED && stepped.happened.reason == 0x06 && passes
             },
             refusing(0),
         ),
@@ -475,22 +482,22 @@ fn timers() -> Vec<Wrong> {
             }
         }),
         gives_back("sending that restarts the watch", numbers, |step, stepped| {
-            if stayed_open(step, stepped) && stepped.telegram != 0 {
+            if stayed_open(step, stepped) && stepped.answer.telegram != 0 {
                 stepped.record.taken_at = step.call.time();
             }
         }),
         gives_back("an acknowledgement that sets the timer of sending", numbers, |step, stepped| {
-            if stepped.event == EVENT_OPENED {
+            if stepped.happened.event == EVENT_OPENED {
                 stepped.record.sent_at = step.call.time();
             }
         }),
         gives_back("idle that doesn't set its timer", link_times::idle_due, |step, stepped| {
-            if stepped.telegram == WROTE_IDLE {
+            if stepped.answer.telegram == WROTE_IDLE {
                 stepped.record.sent_at = step.record.sent_at;
             }
         }),
         gives_back("an authentication that doesn't set its timer", numbers, |step, stepped| {
-            if stepped.telegram == WROTE_AUTHENTICATION {
+            if stepped.answer.telegram == WROTE_AUTHENTICATION {
                 stepped.record.sent_at = step.record.sent_at;
             }
         }),
@@ -498,7 +505,7 @@ fn timers() -> Vec<Wrong> {
             "the partner's idle time kept as ours",
             link_cases::idle_times_received,
             |step, stepped| {
-                if stepped.event == 0 && stepped.record.phase != step.record.phase {
+                if stepped.happened.event == 0 && stepped.record.phase != step.record.phase {
                     std::mem::swap(&mut stepped.record.declared, &mut stepped.record.watched);
                 }
             },
@@ -527,17 +534,17 @@ fn authentications() -> Vec<Wrong> {
         writes("authentication plus 1 written at both levels", numbers, |step, stepped| {
             let partners = field(step.call.telegram(), 3, 6).wrapping_sub(1);
             let telegram = Telegram::authentication(step.record.sending, partners);
-            (step.record.level == 2 && stepped.telegram == WROTE_AUTHENTICATION).then(|| (WROTE_AUTHENTICATION, telegram))
+            (step.record.level == 2 && stepped.answer.telegram == WROTE_AUTHENTICATION).then(|| (WROTE_AUTHENTICATION, telegram))
         }),
         writes("acknowledgement plus 1 written at both levels", numbers, |step, stepped| {
             let partners = step.record.expected.wrapping_sub(2);
             let telegram = Telegram::acknowledgement(step.record.sending, partners);
-            (step.record.level == 2 && stepped.telegram == WROTE_ACKNOWLEDGEMENT).then(|| (WROTE_ACKNOWLEDGEMENT, telegram))
+            (step.record.level == 2 && stepped.answer.telegram == WROTE_ACKNOWLEDGEMENT).then(|| (WROTE_ACKNOWLEDGEMENT, telegram))
         }),
         writes("our own random number sent back", numbers, |step, stepped| {
             let ours = step.record.sending.wrapping_sub(1);
             let telegram = Telegram::acknowledgement(step.record.sending, ours);
-            (stepped.telegram == WROTE_ACKNOWLEDGEMENT).then(|| (WROTE_ACKNOWLEDGEMENT, telegram))
+            (stepped.answer.telegram == WROTE_ACKNOWLEDGEMENT).then(|| (WROTE_ACKNOWLEDGEMENT, telegram))
         }),
         reads("an acknowledgement asked for by the authentication's number", asked, |step| {
             if step.record.phase == ACKNOWLEDGEMENT_AWAITED && is_good(step, 0x04) {
@@ -547,13 +554,13 @@ fn authentications() -> Vec<Wrong> {
         instead(
             "a wrong authentication number dropped",
             asked,
-            |step, stepped| stepped.reason == 0x03 && is_good(step, 0x03),
+            |step, stepped| stepped.happened.reason == 0x03 && is_good(step, 0x03),
             refusing(0),
         ),
         instead(
             "a wrong authentication number that closes not finally",
             asked,
-            |step, stepped| stepped.reason == 0x03 && is_good(step, 0x03),
+            |step, stepped| stepped.happened.reason == 0x03 && is_good(step, 0x03),
             closing(1, 0x03),
         ),
     ]

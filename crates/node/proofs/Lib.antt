@@ -1,8 +1,12 @@
 pub mod Calling
 pub mod Cases
 pub mod Facts
+pub mod Frame
+pub mod Known
+pub mod Meeting
 pub mod Order
 pub mod Rows
 pub mod Searches
 pub mod Shared
 pub mod Walk
+pub mod Walking
