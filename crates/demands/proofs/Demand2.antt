@@ -46,14 +46,15 @@ use Rattle.link.specs.declared.Event.the-variants as event
 use Rattle.link.specs.declared.Verdict.{Verdict}
 use Rattle.link.specs.declared.Verdict.the-variants.{Nothing, Confirm, Authenticate, Acknowledge, Open as Opens, Data, Idle, SendIdle, Disconnected, Close as Closes}
 use Rattle.node.specs.declared.Head.{Head}
+use Rattle.node.specs.declared.Route.{Route}
 use Rattle.node.specs.Heads.{at}
 use Rattle.node.specs.Accepted.{nowhere, recordAt, accepted}
 use Rattle.node.specs.Matching.{isFor, firstMatch}
 use Rattle.node.specs.Calls.{Call, Left, placeOf, stepOf, stepOut, called}
 use Rattle.node.specs.Calls.Call.{Open, Close, Send, Received, Tick}
 use Rattle.node.proofs.Facts.{by-route, net-data-handed-on, others-unchanged, partners-stay, stays-accepted}
-use Rattle.demands.specs.Pairs.{Mirror, Open-to, telegramOf, routeFrom, Done, Nodes, Towards, Moment, sent as given, got, after, In-time, Arrives, Nothing-wrong}
-use Rattle.demands.specs.Demand2.{Comes-up, Goes-on, Sent-comes-up, Due, Idle-is-taken, Closed-with, Close-closes, Silence-closes, Incorrect-closes, textOf, Disconnect-closes, Nothing-refused, Demand-2-one-step}
+use Rattle.demands.specs.Pairs.{Mirror, Open-to, telegramOf, routeFrom, Done, Nodes, Towards, Watching, Moment, sent as given, got, after, In-time, Arrives, Nothing-wrong}
+use Rattle.demands.specs.Demand2.{Comes-up, Goes-on, Sent-comes-up, Due, Idle-is-taken, Is-closed, Closed-with, Close-closes, Silence-closes, Incorrect-closes, textOf, Disconnect-closes, Nothing-refused, Demand-2-one-step}
 use Rattle.demands.proofs.Carried.{Carried, carried, stepIn, done-by}
 use Rattle.demands.proofs.Steps.{Writes, writes, taken-in, judged-open}
 
@@ -85,7 +86,7 @@ in-watch r time ok = by (eqb (r .watched) 0) refl
     by false f = let l = ok (eqb-false (r .watched) 0 f) in le-ltb (r .watched) (gap (r .«taken_at») time) (omega arith)
 
 -- so that an open record's timer has not run out
-open-in-time : (r : Record) (time : ℕ) → r .phase ≡ 5 → In-time r time → runOut r time ≡ false
+pub open-in-time : (r : Record) (time : ℕ) → r .phase ≡ 5 → In-time r time → runOut r time ≡ false
 unfolding runOut watchOver pick
 open-in-time r time p early = rw p (in-watch r time early)
 
@@ -171,7 +172,7 @@ told-by : (c : Call) (h : Head) (t : List Record) (time : ℕ) (d x : List ℕ) 
 told-by c h t time d x g p = rw (g .answer, g .out) p
 
 -- the record that it left
-left-by : (c : Call) (h : Head) (t : List Record) (time : ℕ) (d : List ℕ) → Carried c h t time d → recordAt (called c h t time d .table) (placeOf c t) ≡ stepIn c h t time d .«record»
+pub left-by : (c : Call) (h : Head) (t : List Record) (time : ℕ) (d : List ℕ) → Carried c h t time d → recordAt (called c h t time d .table) (placeOf c t) ≡ stepIn c h t time d .«record»
 left-by c h t time d g = ap (λ (y : List Record). recordAt y (placeOf c t)) (g .table) ∙ getD-set-same t (placeOf c t) _ nowhere (g .there)
 
 -- after one telegram sent and taken the two are open to each other as before
@@ -191,9 +192,20 @@ record Moved (t t′ : List Record) (i time : ℕ) (u u′ : List Record) (j at 
   left : recordAt t′ i ≡ sent (recordAt t i) time
   taken-is : recordAt u′ j ≡ taken (recordAt u j) at
 
+-- the idle times and timers of a record that is known
+pub watching : (r q : Record) → r ≡ q → Watching r (q .declared) (q .watched) (q .«sent_at») (q .«taken_at»)
+watching r q e =
+    record {
+      declared-is = ap (λ (y : Record). y .declared) e;
+      watched-is = ap (λ (y : Record). y .watched) e;
+      sent-at-is = ap (λ (y : Record). y .«sent_at») e;
+      taken-at-is = ap (λ (y : Record). y .«taken_at») e;
+    }
+
 -- and so of the nodes, under the heads that come back
 goes-on : (n : Nodes) (i j : ℕ) (c : Call) (m : Moment) → Towards n i j → Done (given n c m) → Done (got n i c m)
-    → Moved (n .table) (given n c m .table) i (m .time) (n .table′) (got n i c m .table) j (m .at) → Goes-on n (after n i c m) i j
+    → Moved (n .table) (given n c m .table) i (m .time) (n .table′) (got n i c m .table) j (m .at) → Goes-on n i j c m
+unfolding sent taken become
 goes-on n i j c m link done took moved =
     let own = own-kept c (n .head) (n .table) (m .time) (m .out) done in
     let own′ = own-kept _ (n .head′) (n .table′) (m .at) (m .back) took in
@@ -210,6 +222,8 @@ goes-on n i j c m link done took moved =
             there = moved .here;
             open-to = rw (own, own′, moved .left, moved .taken-is) (still-back (n .head .own) (n .head′ .own) (m .time) (m .at) (recordAt (n .table) i) (recordAt (n .table′) j) (b .open-to));
           };
+      sender-watches = watching _ _ (moved .left);
+      partner-watches = watching _ _ (moved .taken-is);
     }
 
 -- What send writes
@@ -302,7 +316,7 @@ numberOf SendIdle = 6
 numberOf Disconnected = 0
 numberOf (Closes reason last) = 5
 
-writing-telegram : (w : Written) (r q : Record) (n : ℕ) (e : Event) → writingStep w r q n e .answer .number ≡ 0 → writingStep w r q n e .answer .telegram ≡ n
+pub writing-telegram : (w : Written) (r q : Record) (n : ℕ) (e : Event) → writingStep w r q n e .answer .number ≡ 0 → writingStep w r q n e .answer .telegram ≡ n
 unfolding writingStep refusedStep pick
 writing-telegram w r q n e = by (eqb (w .answer) 0) refl
   where
@@ -312,7 +326,7 @@ writing-telegram w r q n e = by (eqb (w .answer) 0) refl
     by true f z = refl
     by false f z = absurd (eqb-false (w .answer) 0 f z)
 
-act-telegram : (v : Verdict) (r : Record) (own time random declared : ℕ) (t net d : List ℕ) → actOf v r own time random declared t net d .answer .number ≡ 0
+pub act-telegram : (v : Verdict) (r : Record) (own time random declared : ℕ) (t net d : List ℕ) → actOf v r own time random declared t net d .answer .number ≡ 0
     → actOf v r own time random declared t net d .answer .telegram ≡ numberOf v
 unfolding quietly
 act-telegram Nothing r own time random declared t net d z = refl
@@ -422,19 +436,19 @@ by-type true = refl
 by-type false = refl
 
 -- what closes: a watch that has run out, and a telegram that fails the check
-silent-tick : (r : Record) (time : ℕ) → r .phase ≡ 5 → (r .watched ≡ 0 → ⊥) → r .«taken_at» + r .watched < time → ticked r time ≡ Closes 0x05 false
+pub watch-ran-out : (r : Record) (time : ℕ) → r .phase ≡ 5 → (r .watched ≡ 0 → ⊥) → r .«taken_at» + r .watched < time → runOut r time ≡ true
 unfolding runOut watchOver pick
-silent-tick r time p some over =
-    by-the-table .silent r 0 time [] p (rw p (rw (ne-eqb (r .watched) 0 some) (lt-ltb (r .watched) (gap (r .«taken_at») time) (omega arith)))) .1
+watch-ran-out r time p some over = rw p (rw (ne-eqb (r .watched) 0 some) (lt-ltb (r .watched) (gap (r .«taken_at») time) (omega arith)))
 
-open-expects : (r : Record) → r .phase ≡ 5 → expectedNow r ≡ r .expected
+-- from the confirm on a record expects the number that it holds
+pub expects : (r : Record) (q : ℕ) → r .phase ≡ q → 3 ≤ q → expectedNow r ≡ r .expected
 unfolding expectedNow pick
-open-expects r p = rw p refl
+expects r q p low = rw (p, le-leb 3 q low) refl
 
 pub failing-closes : (r : Record) (own time : ℕ) (t : List ℕ) → r .phase ≡ 5 → In-time r time → (checkOf (endOf r own) (r .expected) t ≡ Passes → ⊥)
     → judged r own time t ≡ Closes 0x06 false
 unfolding judged pick
-failing-closes r own time t p early fails = rw (open-in-time r time p early, open-expects r p) (by (checkOf (endOf r own) (r .expected) t) refl)
+failing-closes r own time t p early fails = rw (open-in-time r time p early, expects r 5 p (omega arith)) (by (checkOf (endOf r own) (r .expected) t) refl)
   where
     by : (c : Check) → checkOf (endOf r own) (r .expected) t ≡ c → checkedBy c r t ≡ Closes 0x06 false
     by Passes e = absurd (fails e)
@@ -506,6 +520,28 @@ phase-by : (last : Bool) (r : Record) → closedBy last r .phase ≡ pick last 6
 unfolding closedBy become
 phase-by last r = refl
 
+-- at the end that wrote it
+pub closed-by : (c : Call) (h : Head) (t : List Record) (time : ℕ) (d : List ℕ) (reason : ℕ) (last : Bool) → Carried c h t time d
+    → Disconnects (recordAt t (placeOf c t)) (h .own) d (stepIn c h t time d) (stepOut c (recordAt t (placeOf c t)) (h .own) time d) reason last
+    → Is-closed (called c h t time d) (placeOf c t) reason last
+closed-by c h t time d reason last g s =
+    record { says = g .event ∙ s .event; phase = ap (λ (z : Record). z .phase) (left-by c h t time d g ∙ s .left) ∙ phase-by last (recordAt t (placeOf c t)) }
+
+pub tick-disconnects : (h : Head) (t : List Record) (i time : ℕ) (d : List ℕ) (reason : ℕ) (last : Bool) → ticked (recordAt t i) time ≡ Closes reason last → Carried (Tick i) h t time d
+    → Disconnects (recordAt t i) (h .own) d (stepIn (Tick i) h t time d) (stepOut (Tick i) (recordAt t i) (h .own) time d) reason last
+unfolding tickOf tickOut
+tick-disconnects h t i time d reason last v g =
+    let r = recordAt t i in rw v (act-closes (tickRefusal r (h .own) d) reason last r (h .own) time 0 0 [] [] d (rw v at (g .number)))
+
+pub receipt-disconnects : (h : Head) (t : List Record) (w : Route) (random : ℕ) (idle-time : IdleTime) (telegram net : List ℕ) (time : ℕ) (d : List ℕ) (reason : ℕ) (last : Bool)
+    → judged (recordAt t (firstMatch w t)) (h .own) time telegram ≡ Closes reason last → Carried (Received w random idle-time telegram net) h t time d
+    → Disconnects (recordAt t (firstMatch w t)) (h .own) d (stepIn (Received w random idle-time telegram net) h t time d)
+    (stepOut (Received w random idle-time telegram net) (recordAt t (firstMatch w t)) (h .own) time d) reason last
+unfolding receivedOf receivedOut
+receipt-disconnects h t w random idle-time telegram net time d reason last v g =
+    let r = recordAt t (firstMatch w t) in
+    rw v (act-closes (receivedRefusal r (h .own) idle-time telegram net d) reason last r (h .own) time random (declaredBy idle-time) telegram net d (rw v at (g .number)))
+
 module _ (n : Nodes) (i j : ℕ) (c : Call) (m : Moment) (place : placeOf c (n .table) ≡ i) where
   abbrev r₅ : Record
   r₅ = recordAt (n .table) (placeOf c (n .table))
@@ -530,15 +566,15 @@ module _ (n : Nodes) (i j : ℕ) (c : Call) (m : Moment) (place : placeOf c (n .
         let there =
         taken-there (given n c m) (n .head) (n .head′) (n .table) (n .table′) i j (m .at) (m .random) (m .idle-time) (m .spare) (m .back) kind.Disconnect (s .type ∷ reason ∷ []) (s .text)
         (linked n i j link) (in-watch q (m .at) (ok .in-time)) is-taken₅ (ok .taken) in
-        let here : recordAt (given n c m .table) i ≡ closedBy last r₅ =
-        subst (λ (y : ℕ). recordAt (given n c m .table) y ≡ closedBy last r₅) place (left-by c (n .head) (n .table) (m .time) (m .out) g ∙ s .left) in
         record {
-          says-here = g .event ∙ s .event;
-          says-there = there .event ∙ ap (λ (vs : List ℕ). event.Closed (getD vs 1 0) (eqb (getD vs 0 0) 0)) (is-taken₅ .fields) ∙ ap (event.Closed reason) (s .finally);
-          phase-here = ap (λ (z : Record). z .phase) here ∙ phase-by last r₅;
-          phase-there =
-              ap (λ (z : Record). z .phase) (there .table ∙ ap (λ (vs : List ℕ). closedBy (eqb (getD vs 0 0) 0) q) (is-taken₅ .fields) ∙ ap (λ (b : Bool). closedBy b q) (s .finally))
-              ∙ phase-by last q;
+          here = subst (λ (y : ℕ). Is-closed (given n c m) y reason last) place (closed-by c (n .head) (n .table) (m .time) (m .out) reason last g s);
+          there =
+              record {
+                says = there .event ∙ ap (λ (vs : List ℕ). event.Closed (getD vs 1 0) (eqb (getD vs 0 0) 0)) (is-taken₅ .fields) ∙ ap (event.Closed reason) (s .finally);
+                phase =
+                    ap (λ (z : Record). z .phase) (there .table ∙ ap (λ (vs : List ℕ). closedBy (eqb (getD vs 0 0) 0) q) (is-taken₅ .fields) ∙ ap (λ (b : Bool). closedBy b q) (s .finally))
+                    ∙ phase-by last q;
+              };
         }
 
 pub close-closes : Close-closes
@@ -547,26 +583,22 @@ close-closes n i j type reason text m bytes link ok =
     closes n i j (Close i type reason text) m refl reason (eqb type 0) g (close-closes-step i type reason text (recordAt (n .table) i) (n .head .own) (m .time) (m .out) bytes (g .number)) link ok
 
 pub silence-closes : Silence-closes
-unfolding tickOf tickOut
+unfolding pick
 silence-closes n i j m link some over ok =
     let r = recordAt (n .table) i in
     let g = carried (Tick i) (n .head) (n .table) (m .time) (m .out) (ok .done) in
-    let v : ticked r (m .time) ≡ Closes 0x05 false = silent-tick r (m .time) (link .open-to .open-here) some over in
-    closes n i j (Tick i) m refl 0x05 false g
-    (rw v (act-closes (tickRefusal r (n .head .own) (m .out)) 0x05 false r (n .head .own) (m .time) 0 0 [] [] (m .out) (rw v at (g .number)))) link ok
+    let p = link .open-to .open-here in
+    let v = by-the-table .silent r 0 (m .time) [] p (watch-ran-out r (m .time) p some over) .1 in
+    closes n i j (Tick i) m refl 0x05 false g (tick-disconnects (n .head) (n .table) i (m .time) (m .out) 0x05 false v g) link ok
 
 pub incorrect-closes : Incorrect-closes
-unfolding receivedOf receivedOut
 incorrect-closes n i j random idle-time w telegram net m link place early fails ok =
-    let call = Received w random idle-time telegram net in
-    let r = recordAt (n .table) (firstMatch w (n .table)) in
-    let g = carried call (n .head) (n .table) (m .time) (m .out) (ok .done) in
-    let v : judged r (n .head .own) (m .time) telegram ≡ Closes 0x06 false =
+    let g = carried (Received w random idle-time telegram net) (n .head) (n .table) (m .time) (m .out) (ok .done) in
+    let v : judged (recordAt (n .table) (firstMatch w (n .table))) (n .head .own) (m .time) telegram ≡ Closes 0x06 false =
     subst (λ (y : ℕ). judged (recordAt (n .table) y) (n .head .own) (m .time) telegram ≡ Closes 0x06 false) (sym place)
     (failing-closes (recordAt (n .table) i) (n .head .own) (m .time) telegram (link .open-to .open-here) early fails) in
-    closes n i j call m place 0x06 false g
-    (rw v
-    (act-closes (receivedRefusal r (n .head .own) idle-time telegram net (m .out)) 0x06 false r (n .head .own) (m .time) random (declaredBy idle-time) telegram net (m .out) (rw v at (g .number)))) link ok
+    closes n i j (Received w random idle-time telegram net) m place 0x06 false g
+    (receipt-disconnects (n .head) (n .table) w random idle-time telegram net (m .time) (m .out) 0x06 false v g) link ok
 
 pub disconnect-closes : Disconnect-closes
 disconnect-closes n i j c m place bytes link ok five =

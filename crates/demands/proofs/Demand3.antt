@@ -1,7 +1,7 @@
 -- Demand 3: two different records of an accepted table have another partner, since a route that is for both would name both, and then no telegram passes both
 -- checks. What the partner's end writes passes its own record's check, so it passes no other's.
 -- Assumes nothing.
-use mathlib.Core.Path.{_≡_, refl, sym, subst, _∙_}
+use mathlib.Core.Path.{_≡_, refl, sym, _∙_}
 use mathlib.Core.Bool.{true, false}
 use mathlib.Core.List.{List}
 use Prim.Native.Nat.{ℕ}
@@ -14,19 +14,15 @@ use Rattle.telegram.specs.declared.Check.the-variants.{Passes}
 use Rattle.telegram.proofs.Apart.{level-apart, apart-at-4, apart-at-2, connect-apart, one-number}
 use Rattle.telegram.proofs.Taken.{request-taken, confirm-taken, authentication-taken, acknowledgement-taken, disconnect-taken, idle-taken, data-taken}
 use Rattle.link.specs.Records.{endOf}
-use Rattle.link.specs.Judged.{judged}
-use Rattle.link.specs.Steps.{declaredBy, receivedRefusal, receivedOf}
 use Rattle.link.specs.declared.Record.{Record}
-use Rattle.link.specs.declared.Verdict.the-variants.{Close as Closes}
 use Rattle.node.specs.declared.Head.{Head}
 use Rattle.node.specs.declared.Route.{Route}
 use Rattle.node.specs.Accepted.{recordAt}
-use Rattle.node.specs.Matching.{isFor, firstMatch}
-use Rattle.node.specs.Calls.Call.{Received}
+use Rattle.node.specs.Matching.{isFor}
 use Rattle.node.proofs.Facts.{by-route}
 use Rattle.demands.specs.Demand3.{Two, endAt, No-telegram-for-two-levels, No-telegram-for-two-at-4, No-telegram-for-two-at-2, No-connect-for-two, Wrote, Cards-exchanged, Cards-exchanged-closes, Demand-3}
-use Rattle.demands.proofs.Carried.{carried}
-use Rattle.demands.proofs.Demand2.{failing-closes, act-closes}
+use Rattle.demands.proofs.Demand2.{failing-closes}
+use Rattle.demands.proofs.OneEnd.{receipt-closes}
 use Rattle.demands.specs.Demand3.Wrote.{request, confirm, authentication, acknowledgement, disconnect, idle, data-telegram}
 
 -- the route of a record
@@ -80,16 +76,9 @@ unfolding endOf
 cards-exchanged h t i j m n u bytes two four w p = no-telegram-for-two-at-4 h t j i m n u bytes (two-back h t i j two) four p (wrote-passes (mirrored (endAt h t i)) n u w)
 
 pub cards-exchanged-closes : Cards-exchanged-closes
-unfolding receivedOf
 cards-exchanged-closes h t i j n w random idle-time u net time d bytes two four wrote-it place phase early done =
-    let call = Received w random idle-time u net in
-    let r = recordAt t (firstMatch w t) in
-    let g = carried call h t time d done in
-    let v : judged r (h .own) time u ≡ Closes 0x06 false =
-    subst (λ (y : ℕ). judged (recordAt t y) (h .own) time u ≡ Closes 0x06 false) (sym place)
-    (failing-closes (recordAt t j) (h .own) time u phase early (cards-exchanged h t i j (recordAt t j .expected) n u bytes two four wrote-it)) in
-    g .event
-    ∙ (rw v (act-closes (receivedRefusal r (h .own) idle-time u net d) 0x06 false r (h .own) time random (declaredBy idle-time) u net d (rw v at (g .number)) .event))
+    receipt-closes h t j w random idle-time u net time d 0x06 false place
+    (failing-closes (recordAt t j) (h .own) time u phase early (cards-exchanged h t i j (recordAt t j .expected) n u bytes two four wrote-it)) done
 
 pub demand-3 : Demand-3
 demand-3 =

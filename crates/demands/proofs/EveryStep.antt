@@ -6,7 +6,6 @@ use mathlib.Core.List.{List, [], _∷_, _++_}
 use Prim.Native.Nat.{ℕ, _*_, _≤_}
 use native.Mathlib.Omega.{arith}
 use lib.ListN.{length}
-use lib.Seq.{getD-set-same}
 use lib.Dec.{leb, eqb}
 use borrow.Author.Tests.{eq-eqb, ne-eqb, eqb-true, eqb-false, leb-true}
 use Rattle.telegram.specs.Choice.{pick}
@@ -20,18 +19,18 @@ use Rattle.link.specs.declared.Event.{Event}
 use Rattle.link.specs.declared.Event.the-variants as event
 use Rattle.link.specs.declared.Verdict.the-variants.{Nothing}
 use Rattle.node.specs.declared.Outcome.{Outcome}
-use Rattle.node.specs.Accepted.{nowhere, recordAt}
-use Rattle.node.specs.Calls.{Call, refusedOutcome, called}
+use Rattle.node.specs.Accepted.{recordAt}
+use Rattle.node.specs.Calls.{Call, placeOf, refusedOutcome}
 use Rattle.node.specs.Calls.Call.{Send, Tick}
 use Rattle.node.proofs.Facts.{refused-changes-nothing, others-unchanged}
-use Rattle.demands.specs.Pairs.{telegramOf, Done, Nodes, turned, Towards, Connected, Moment, sent, got, In-time}
+use Rattle.demands.specs.Pairs.{telegramOf, Done, Nodes, turned, Towards, Connected, Moment, sent, got, after, In-time}
 use Rattle.demands.specs.Demand2.{Comes-up, Goes-on, Due}
 use Rattle.demands.specs.EveryStep.{Way, Exchange, facing, caller, partner, alone, then-on, Nothing-to, Goes-well, handedBy, heard, messages, Demand-2-over-every-step}
 use Rattle.demands.specs.EveryStep.Way.{there, back}
 use Rattle.demands.specs.EveryStep.Exchange.{message, idle, meanwhile}
 use Rattle.demands.specs.EveryStep.Nothing-to.{elsewhere, refused, early}
 use Rattle.demands.proofs.Carried.{carried}
-use Rattle.demands.proofs.Demand2.{own-kept, in-watch, sent-comes-up, idle-is-taken}
+use Rattle.demands.proofs.Demand2.{own-kept, left-by, in-watch, sent-comes-up, idle-is-taken}
 
 handed-data : (w : Way) (e : Event) (x : List ℕ) (low : ℕ) (net : List ℕ) → Comes-up low net x e → handedBy w e x ≡ (w, (low, net)) ∷ []
 unfolding pick
@@ -51,8 +50,8 @@ faced-back there n i j c = c
 faced-back back n i j c = record { towards = c .back; back = c .towards }
 
 -- after a telegram that was sent and taken
-both : (n n′ : Nodes) (i j : ℕ) → Connected n i j → Goes-on n n′ i j → Connected n′ i j
-both n n′ i j c g = record { towards = g .towards; back = g .back (c .back) }
+both : (n : Nodes) (i j : ℕ) (c : Call) (m : Moment) → Connected n i j → Goes-on n i j c m → Connected (after n i c m) i j
+both n i j c m y g = record { towards = g .towards; back = g .back (y .back) }
 
 -- What a call that is nothing to the connection leaves
 
@@ -74,28 +73,30 @@ quiet-tick : (r : Record) (time : ℕ) → r .phase ≡ 5 → In-time r time →
 unfolding ticked runOut watchOver idleDue pick
 quiet-tick r time p ok not-yet = rw (p, in-watch r time ok, not-due r time ok not-yet) refl
 
-unless-same : (n : ℕ) (r : Record) (e : Event) → unlessStep n r (quietly r e) .«record» ≡ r
-unfolding quietly refusedStep pick
-unless-same n r e = by (eqb n 0)
+quiet-step : (r : Record) (own time : ℕ) (d : List ℕ) → r .phase ≡ 5 → In-time r time → (Due r time → ⊥)
+    → (tickOf r own time d .«record» ≡ r) × (tickOf r own time d .event ≡ event.Nothing)
+unfolding tickOf quietly refusedStep pick
+quiet-step r own time d p ok not-yet = rw (quiet-tick r time p ok not-yet) (by (eqb (tickRefusal r own d) 0))
   where
-    by : (b : Bool) → pick b (quietly r e) (refusedStep n r) .«record» ≡ r
-    by true = refl
-    by false = refl
+    by : (b : Bool) → (pick b (quietly r event.Nothing) (refusedStep (tickRefusal r own d) r) .«record» ≡ r) × (pick b (quietly r event.Nothing) (refusedStep (tickRefusal r own d) r) .event ≡ event.Nothing)
+    by true = (refl, refl)
+    by false = (refl, refl)
 
-quiet-step : (r : Record) (own time : ℕ) (d : List ℕ) → r .phase ≡ 5 → In-time r time → (Due r time → ⊥) → tickOf r own time d .«record» ≡ r
-unfolding tickOf
-quiet-step r own time d p ok not-yet = rw (quiet-tick r time p ok not-yet) (unless-same (tickRefusal r own d) r event.Nothing)
-
--- the own address, and the record
+-- the own address and the record, and no word for the layer above if the call was for it
 record Kept (n : Nodes) (i : ℕ) (c : Call) (m : Moment) : Type 0 where
   own : sent n c m .outcome .head .own ≡ n .head .own
   left : recordAt (sent n c m .table) i ≡ recordAt (n .table) i
+  silent : placeOf c (n .table) ≡ i → happened (sent n c m .outcome .event) .event ≡ 0
 
 unchanged : (n : Nodes) (i : ℕ) (c : Call) (m : Moment) → (Done (sent n c m) → ⊥) → Kept n i c m
 unfolding refusedOutcome
 unchanged n i c m not-done =
     let s = refused-changes-nothing c (n .head) (n .table) (m .time) (m .out) not-done in
-    record { own = ap (λ (y : Outcome). y .head .own) (s .0); left = ap (λ (y : List Record). recordAt y i) (s .1 .0) }
+    record {
+      own = ap (λ (y : Outcome). y .head .own) (s .0);
+      left = ap (λ (y : List Record). recordAt y i) (s .1 .0);
+      silent = λ place. ap (λ (y : Outcome). happened (y .event) .event) (s .0);
+    }
 
 -- whether it was done or refused
 either : (n : Nodes) (i : ℕ) (c : Call) (m : Moment) → (Done (sent n c m) → Kept n i c m) → Kept n i c m
@@ -111,20 +112,33 @@ kept n i c m p (elsewhere other) =
     (λ done. record {
       own = own-kept c (n .head) (n .table) (m .time) (m .out) done;
       left = others-unchanged .records c (n .head) (n .table) (m .time) (m .out) i (λ e. other (sym e));
+      silent = λ place. absurd (other place);
     })
 kept n i c m p (refused not-done) = unchanged n i c m not-done
 kept n i c m p (early f ok not-yet) =
     rw f
     (either n i (Tick i) m
-    (λ done. let g = carried (Tick i) (n .head) (n .table) (m .time) (m .out) done in record {
+    (λ done.
+    let g = carried (Tick i) (n .head) (n .table) (m .time) (m .out) done in
+    let q = quiet-step (recordAt (n .table) i) (n .head .own) (m .time) (m .out) p ok not-yet in
+    record {
       own = own-kept (Tick i) (n .head) (n .table) (m .time) (m .out) done;
-      left = ap (λ (y : List Record). recordAt y i) (g .table) ∙ getD-set-same (n .table) i _ nowhere (g .there) ∙ quiet-step (recordAt (n .table) i) (n .head .own) (m .time) (m .out) p ok not-yet;
+      left = left-by (Tick i) (n .head) (n .table) (m .time) (m .out) g ∙ q .0;
+      silent = λ place. ap (λ (y : Event). happened y .event) (g .event ∙ q .1);
     }))
 
+-- so nothing is handed up
+unheard : (w : Way) (n : Nodes) (i : ℕ) (c : Call) (m : Moment) → Kept n i c m → pick (eqb (placeOf c (n .table)) i) (handedBy w (sent n c m .outcome .event) []) [] ≡ []
+unfolding pick
+unheard w n i c m k = by (eqb (placeOf c (n .table)) i) refl
+  where
+    by : (b : Bool) → eqb (placeOf c (n .table)) i ≡ b → pick b (handedBy w (sent n c m .outcome .event) []) [] ≡ []
+    by true f = handed-none w (sent n c m .outcome .event) [] (k .silent (eqb-true _ i f))
+    by false f = refl
+
 -- so the two are connected as before
-stay : (n : Nodes) (i j : ℕ) (c : Call) (m : Moment) → Connected n i j → Nothing-to n i c m → Connected (alone n c m) i j
-stay n i j c m y z =
-    let k = kept n i c m (y .towards .open-to .open-here) z in
+stay : (n : Nodes) (i j : ℕ) (c : Call) (m : Moment) → Connected n i j → Kept n i c m → Connected (alone n c m) i j
+stay n i j c m y k =
     let count = others-unchanged .count c (n .head) (n .table) (m .time) (m .out) in
     record {
       towards = record { here = rw count (y .towards .here); there = y .towards .there; open-to = rw (k .own, k .left) (y .towards .open-to) };
@@ -142,16 +156,21 @@ stepped n i j (message w low net m) xs c (bytes, ok) =
     let s = sent-comes-up (facing w n) (caller w i j) (partner w i j) low net m bytes (faced w n i j c .towards) ok in
     record {
       hands = ap (λ (y : List (Way × (ℕ × List ℕ))). y ++ messages xs) (handed-data w _ _ low net (s .0));
-      again = faced-back w _ i j (both (facing w n) _ (caller w i j) (partner w i j) (faced w n i j c) (s .1));
+      again = faced-back w _ i j (both (facing w n) (caller w i j) (partner w i j) (Send (caller w i j) low net) m (faced w n i j c) (s .1));
     }
 stepped n i j (idle w m) xs c (due, ok) =
     let s = idle-is-taken (facing w n) (caller w i j) (partner w i j) m (faced w n i j c .towards) due ok in
     record {
       hands = ap (λ (y : List (Way × (ℕ × List ℕ))). y ++ messages xs)
           (handed-none w (got (facing w n) (caller w i j) (Tick (caller w i j)) m .outcome .event) (telegramOf (sent (facing w n) (Tick (caller w i j)) m)) (s .1 .0));
-      again = faced-back w _ i j (both (facing w n) _ (caller w i j) (partner w i j) (faced w n i j c) (s .1 .1));
+      again = faced-back w _ i j (both (facing w n) (caller w i j) (partner w i j) (Tick (caller w i j)) m (faced w n i j c) (s .1 .1));
     }
-stepped n i j (meanwhile w c m) xs y z = record { hands = refl; again = faced-back w _ i j (stay (facing w n) (caller w i j) (partner w i j) c m (faced w n i j y) z) }
+stepped n i j (meanwhile w c m) xs y z =
+    let k = kept (facing w n) (caller w i j) c m (faced w n i j y .towards .open-to .open-here) z in
+    record {
+      hands = ap (λ (y : List (Way × (ℕ × List ℕ))). y ++ messages xs) (unheard w (facing w n) (caller w i j) c m k);
+      again = faced-back w _ i j (stay (facing w n) (caller w i j) (partner w i j) c m (faced w n i j y) k);
+    }
 
 pub demand-2-over-every-step : Demand-2-over-every-step
 demand-2-over-every-step n i j [] c g = (refl, c)

@@ -48,7 +48,7 @@ use Rattle.demands.specs.Pairs.{Mirror, telegramOf, routeFrom, Done}
 use Rattle.demands.specs.SetUp.{Given, Parties, here, there, takes, asks, confirms, authenticates, acknowledges, Sets-up, set-up, Demand-2-set-up, Demand-2-from-the-request}
 use Rattle.demands.proofs.Carried.{Carried, carried}
 use Rattle.demands.proofs.Steps.{Writes, writes, taken-in}
-use Rattle.demands.proofs.Demand2.{for-mirror}
+use Rattle.demands.proofs.Demand2.{watching, for-mirror}
 use Rattle.demands.proofs.EveryStep.{demand-2-over-every-step}
 
 -- What a node is left with by a call for its record at a place: the record, the event, the telegram.
@@ -427,8 +427,8 @@ demand-2-set-up p s =
                       (record { ends = mirror-back (p .head .own) (p .head′ .own) (here p) (there p) (s .mirror); open-here = refl; open-there = refl; number = refl });
                 };
           };
-      opener-watches = ap (λ (y : Record). y .watched) (l .record-is);
-      responder-watches = ap (λ (y : Record). y .watched) (k .record-is);
+      opener-watches = watching _ _ (l .record-is);
+      responder-watches = watching _ _ (k .record-is);
     }
 
 pub demand-2-from-the-request : Demand-2-from-the-request

@@ -38,7 +38,7 @@ use Rattle.node.specs.Calls.{Call, Left, placeOf, called, asked, settled}
 use Rattle.node.specs.Calls.Call.{Open, Close, Send, Received, Tick}
 use Rattle.node.specs.Plain.{dataOf}
 use Rattle.node.specs.Facts.{Others-unchanged, Partners-stay, Stays-accepted}
-use Rattle.demands.specs.Pairs.{telegramOf, Done, Nodes, turned, Towards, Connected, Moment, sent, got, after, In-time, Arrives, Nothing-wrong}
+use Rattle.demands.specs.Pairs.{telegramOf, Done, Nodes, turned, Towards, Connected, Watching, Moment, sent, got, after, In-time, Arrives, Nothing-wrong}
 
 -- The event is data with this command, and the part of the telegram that it names are these net bytes.
 pub record Comes-up (low : ℕ) (net telegram : List ℕ) (e : Event) : Type 0 where
@@ -46,16 +46,19 @@ pub record Comes-up (low : ℕ) (net telegram : List ℕ) (e : Event) : Type 0 w
   pub command : happened e .command ≡ low
   pub net-data : dataOf e telegram ≡ net
 
--- After a telegram that was sent and taken: open towards the partner as before; and the partner towards us, if it was.
-pub record Goes-on (n n′ : Nodes) (i j : ℕ) : Type 0 where
-  pub towards : Towards n′ i j
-  pub back : Towards (turned n) j i → Towards (turned n′) j i
+-- After a telegram that was sent and taken: open towards the partner as before; and the partner towards us, if it was. Idle times stay, the
+-- sender's time of sending and the partner's time of taking are the calls': so the watch goes on.
+pub record Goes-on (n : Nodes) (i j : ℕ) (c : Call) (m : Moment) : Type 0 where
+  pub towards : Towards (after n i c m) i j
+  pub back : Towards (turned n) j i → Towards (turned (after n i c m)) j i
+  pub sender-watches : Watching (recordAt (sent n c m .table) i) (recordAt (n .table) i .declared) (recordAt (n .table) i .watched) (m .time) (recordAt (n .table) i .«taken_at»)
+  pub partner-watches : Watching (recordAt (got n i c m .table) j) (recordAt (n .table′) j .declared) (recordAt (n .table′) j .watched) (recordAt (n .table′) j .«sent_at») (m .at)
 
 -- What send writes comes up as data with the same command and the same net bytes.
 abbrev pub Sent-comes-up : Type 0
 Sent-comes-up =
     (n : Nodes) (i j low : ℕ) (net : List ℕ) (m : Moment) → Bytes net → Towards n i j → Arrives n i j (Send i low net) m
-    → Comes-up low net (telegramOf (sent n (Send i low net) m)) (got n i (Send i low net) m .outcome .event) × Goes-on n (after n i (Send i low net) m) i j
+    → Comes-up low net (telegramOf (sent n (Send i low net) m)) (got n i (Send i low net) m .outcome .event) × Goes-on n i j (Send i low net) m
 
 -- An idle telegram is due at this time: at least half of the time declared has passed since the last sending, and the own watch has not run out.
 pub record Due (r : Record) (time : ℕ) : Type 0 where
@@ -68,14 +71,17 @@ abbrev pub Idle-is-taken : Type 0
 Idle-is-taken =
     (n : Nodes) (i j : ℕ) (m : Moment) → Towards n i j → Due (recordAt (n .table) i) (m .time) → Arrives n i j (Tick i) m
     → (sent n (Tick i) m .outcome .answer .telegram ≡ 6)
-    × ((happened (got n i (Tick i) m .outcome .event) .event ≡ 0) × Goes-on n (after n i (Tick i) m) i j)
+    × ((happened (got n i (Tick i) m .outcome .event) .event ≡ 0) × Goes-on n i j (Tick i) m)
 
--- Both ends say that the connection is closed with this reason, finally or not, and so it is.
+-- A call says that the record at this place is closed with this reason, finally or not, and so it is.
+pub record Is-closed (l : Left) (place reason : ℕ) (last : Bool) : Type 0 where
+  pub says : l .outcome .event ≡ Closed reason last
+  pub phase : recordAt (l .table) place .phase ≡ pick last 6 1
+
+-- Both ends of a connection are.
 pub record Closed-with (l g : Left) (i j reason : ℕ) (last : Bool) : Type 0 where
-  pub says-here : l .outcome .event ≡ Closed reason last
-  pub says-there : g .outcome .event ≡ Closed reason last
-  pub phase-here : recordAt (l .table) i .phase ≡ pick last 6 1
-  pub phase-there : recordAt (g .table) j .phase ≡ pick last 6 1
+  pub here : Is-closed l i reason last
+  pub there : Is-closed g j reason last
 
 -- What close writes closes the partner with its reason and type (0: finally).
 abbrev pub Close-closes : Type 0

@@ -1,4 +1,5 @@
--- Demand 3: in an accepted table no telegram passes the check of two records.
+-- Demand 3: in an accepted table no telegram passes the check of two level 4 records, whatever numbers they expect; at level 2 when the implicit bytes differ
+-- only within four neighbouring places.
 -- Assumes nothing.
 use mathlib.Core.Path.{_≡_, refl}
 use mathlib.Core.Bool.{true, false}
@@ -41,7 +42,7 @@ use Rattle.node.specs.Accepted.{recordAt, accepted, boundsAccepted, recordAccep
 use Rattle.node.specs.Calls.{Left, called, asked, settled}
 use Rattle.node.specs.Calls.Call.{Received}
 use Rattle.demands.specs.Pairs.{Done, In-time}
-use Rattle.demands.specs.Demand2.{exampleRecord}
+use Rattle.demands.specs.Demand2.{Is-closed, exampleRecord}
 
 -- Two different records of an accepted table.
 pub record Two (h : Head) (t : List Record) (i j : ℕ) : Type 0 where
@@ -91,7 +92,7 @@ pub data Wrote (e : End) (n : ℕ) (telegram : List ℕ) : Type 0 where
   idle : (d : List ℕ) → writesIdle e n d ≡ wrote telegram → Wrote e n telegram
   data-telegram : (low : ℕ) (net d : List ℕ) → Bytes net → writesData e n low net d ≡ wrote telegram → Wrote e n telegram
 
--- The drawing: two cards exchanged. What the partner's end of one connection writes passes the check of no other record of level 4, whatever that record
+-- Two cards exchanged: what the partner's end of one connection writes passes the check of no other record of level 4, whatever that record
 -- expects: the telegram keeps the implicit bytes that it was written with.
 abbrev pub Cards-exchanged : Type 0
 Cards-exchanged =
@@ -104,7 +105,7 @@ Cards-exchanged-closes =
     (h : Head) (t : List Record) (i j n : ℕ) (w : Route) (random : ℕ) (idle-time : IdleTime) (telegram net : List ℕ) (time : ℕ) (d : List ℕ)
     → Bytes telegram → Two h t i j → recordAt t j .level ≡ 4 → Wrote (mirrored (endAt h t i)) n telegram
     → firstMatch w t ≡ j → recordAt t j .phase ≡ 5 → In-time (recordAt t j) time → Done (called (Received w random idle-time telegram net) h t time d)
-    → called (Received w random idle-time telegram net) h t time d .outcome .event ≡ Closed 0x06 false
+    → Is-closed (called (Received w random idle-time telegram net) h t time d) j 0x06 false
 
 -- All of demand 3 over tables. One-number, of telegrams other than connect requests and confirms: each passes at one expected number only.
 pub record Demand-3 : Type 0 where
@@ -157,7 +158,7 @@ example-wrote = (
   data-telegram 0x09 (1 ∷ 2 ∷ []) (replicate 244 0) (lit< tt, (lit< tt, tt)) refl,
 )
 
--- The check by the record at a place, which expects that number.
+-- The check by the record at a place, with 01234569h as the number expected.
 abbrev pub exampleCheck : ℕ → ℕ → List ℕ → Check
 exampleCheck level i telegram = checkOf (endAt exampleHead (exampleTable level) i) 0x01234569 telegram
 

@@ -1,5 +1,5 @@
--- Demand 2, over every step: whatever is sent, one telegram after the other in either direction and each received in time, whatever else the two nodes do
--- meanwhile, the other end hands up exactly that, in order, and the two stay connected.
+-- Demand 2, over every step: whatever is sent, one telegram after the other in either direction, each received in time and before the next is sent, and
+-- whatever the two nodes do for other connections meanwhile, the other end hands up exactly that, in order, and the two stay connected.
 -- Assumes nothing.
 use mathlib.Core.Path.{_≡_, refl}
 use mathlib.Core.List.{List, [], _∷_, _++_}
@@ -58,7 +58,7 @@ abbrev pub partner : Way → ℕ → ℕ → ℕ
 partner there i j = j
 partner back i j = i
 
--- The nodes after a call that no telegram came of.
+-- The nodes after a call of one alone.
 abbrev pub alone : Nodes → Call → Moment → Nodes
 alone n c m = record { head = sent n c m .outcome .head; table = sent n c m .table; head′ = n .head′; table′ = n .table′ }
 
@@ -89,12 +89,13 @@ All-go-well n i j (x ∷ xs) = Goes-well n i j x × All-go-well (then-on n i j x
 abbrev pub handedBy : Way → Event → List ℕ → List (Way × (ℕ × List ℕ))
 handedBy w e telegram = pick (eqb (happened e .event) 2) ((w, (happened e .command, dataOf e telegram)) ∷ []) []
 
--- What the two ends of the connection hand up at an exchange ..
+-- What the two ends of the connection hand up at an exchange: the partner, of the telegram that it takes; and a node that makes a call meanwhile for its record
+-- of this connection, whatever that call says, ..
 abbrev pub heard : Nodes → ℕ → ℕ → Exchange → List (Way × (ℕ × List ℕ))
 heard n i j (message w low net m) =
     handedBy w (got (facing w n) (caller w i j) (Send (caller w i j) low net) m .outcome .event) (telegramOf (sent (facing w n) (Send (caller w i j) low net) m))
 heard n i j (idle w m) = handedBy w (got (facing w n) (caller w i j) (Tick (caller w i j)) m .outcome .event) (telegramOf (sent (facing w n) (Tick (caller w i j)) m))
-heard n i j (meanwhile w c m) = []
+heard n i j (meanwhile w c m) = pick (eqb (placeOf c (facing w n .table)) (caller w i j)) (handedBy w (sent (facing w n) c m .outcome .event) []) []
 
 -- .. and over all of them, and what was said.
 abbrev pub handed-up : Nodes → ℕ → ℕ → List Exchange → List (Way × (ℕ × List ℕ))

@@ -2,7 +2,9 @@ pub mod Pairs
 pub mod Demand1
 pub mod Demand2
 pub mod Demand3
+pub mod Demands
 pub mod EveryStep
+pub mod OneEnd
 pub mod Law
 pub mod SetUp
 pub mod Unique

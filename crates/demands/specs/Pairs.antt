@@ -62,6 +62,13 @@ pub record Connected (n : Nodes) (i j : ℕ) : Type 0 where
   pub towards : Towards n i j
   pub back : Towards (turned n) j i
 
+-- The idle times and timers of a record: what it declares and watches for, and when it last sent and took a telegram.
+pub record Watching (r : Record) (declares watches sent-at taken-at : ℕ) : Type 0 where
+  pub declared-is : r .declared ≡ declares
+  pub watched-is : r .watched ≡ watches
+  pub sent-at-is : r .«sent_at» ≡ sent-at
+  pub taken-at-is : r .«taken_at» ≡ taken-at
+
 -- The circumstances of a telegram: when it is sent and when it is received, the buffers of both ends, and what the receiving call lends for a possible confirm.
 pub record Moment : Type 0 where
   pub time : ℕ

@@ -1,5 +1,5 @@
--- Demand 2, set-up: from two closed mirrored records the four telegrams, each received in time, end with the two connected, at both levels and whatever the
--- random numbers; and what is then sent comes up.
+-- Demand 2, set-up: from two closed mirrored records the four telegrams, each received in time and with nothing between them, end with the two connected, at
+-- both levels and whatever the random numbers; and what is then sent comes up.
 -- Assumes nothing.
 use mathlib.Core.Path.{_≡_, refl}
 use mathlib.Core.Bool.{false}
@@ -30,7 +30,7 @@ use Rattle.node.specs.Heads.{at}
 use Rattle.node.specs.Accepted.{recordAt, accepted, boundsAccepted, recordAccepted}
 use Rattle.node.specs.Calls.{Left, called, asked, settled}
 use Rattle.node.specs.Calls.Call.{Open, Received}
-use Rattle.demands.specs.Pairs.{Mirror, telegramOf, routeFrom, Done, Nodes, Connected}
+use Rattle.demands.specs.Pairs.{Mirror, telegramOf, routeFrom, Done, Nodes, Connected, Watching}
 use Rattle.demands.specs.EveryStep.{Exchange, All-go-well, handed-up, messages, Stay-connected}
 
 -- What a call is given: its time and buffer, a random number, and an idle time and net data for a request or a possible confirm.
@@ -66,7 +66,7 @@ there p = recordAt (p .table′) (p .j)
 abbrev pub takes : Left → ℕ → Record → Head → List Record → Given → Left
 takes l own r k u g = called (Received (routeFrom own r) (g .random) (g .idle-time) (telegramOf l) (g .net)) k u (g .time) (g .out)
 
--- The five calls: the opener asks, the responder confirms, the opener authenticates, the responder acknowledges and is open, the opener is open.
+-- The five calls, with no other call of the two nodes between them: the opener asks, the responder confirms, the opener authenticates, the responder acknowledges and is open, the opener is open.
 abbrev pub asks : Parties → Left
 asks p = called (Open (p .i) (p .first .random) (p .first .idle-time) (p .first .net)) (p .head) (p .table) (p .first .time) (p .first .out)
 
@@ -104,13 +104,13 @@ pub record Sets-up (p : Parties) : Type 0 where
 abbrev pub set-up : Parties → Nodes
 set-up p = record { head = opens p .outcome .head; table = opens p .table; head′ = acknowledges p .outcome .head; table′ = acknowledges p .table }
 
--- Both say that they are open, and so they are, towards each other; and each watches for the idle time that the other declared.
+-- Both say that they are open, and so they are, towards each other; and each watches for the idle time that the other declared, from the last telegram on.
 pub record Both-open (p : Parties) : Type 0 where
   pub opener : opens p .outcome .event ≡ Opened
   pub responder : acknowledges p .outcome .event ≡ Opened
   pub connected : Connected (set-up p) (p .i) (p .j)
-  pub opener-watches : recordAt (opens p .table) (p .i) .watched ≡ declaredBy (p .second .idle-time)
-  pub responder-watches : recordAt (acknowledges p .table) (p .j) .watched ≡ declaredBy (p .first .idle-time)
+  pub opener-watches : Watching (recordAt (opens p .table) (p .i)) (declaredBy (p .first .idle-time)) (declaredBy (p .second .idle-time)) (p .third .time) (p .fifth .time)
+  pub responder-watches : Watching (recordAt (acknowledges p .table) (p .j)) (declaredBy (p .second .idle-time)) (declaredBy (p .first .idle-time)) (p .fourth .time) (p .fourth .time)
 
 abbrev pub Demand-2-set-up : Type 0
 Demand-2-set-up = (p : Parties) → Sets-up p → Both-open p

@@ -1,0 +1,153 @@
+-- Demand 2, at one end, whatever its partner does: what closes a connection and with which reason, and what alone opens one.
+-- Assumes nothing.
+use mathlib.Core.Path.{_≡_, refl}
+use mathlib.Core.Bool.{true, false}
+use mathlib.Core.List.{List, [], _∷_}
+use mathlib.Core.Logic.{_⊎_}
+use Prim.Native.Nat.{ℕ, _+_, _≤_, _<_}
+use lib.ListN.{replicate}
+use Rattle.checkword.specs.Generators.{generator48, generator32}
+use Rattle.checkword.specs.Word.{shift, feed}
+use Rattle.telegram.specs.Choice.{pick}
+use Rattle.telegram.specs.Levels.{levelOf, topBits, width, wordLength, generator}
+use Rattle.telegram.specs.Fields.{authenticationOf}
+use Rattle.telegram.specs.Commands.{kindOfCommand, kindOf, isData}
+use Rattle.telegram.specs.Values.{goodIdle, goodType, listedReason, goodDualBus}
+use Rattle.telegram.specs.Ends.{inRange, implicit}
+use Rattle.telegram.specs.Telegrams.{authenticationNumber, request, disconnect, sealed, body, checkWord}
+use Rattle.telegram.specs.Writers.{refusal, connectAllowed, writesRequest, disconnectAllowed, writesDisconnect}
+use Rattle.telegram.specs.Check.{commandOf, checkOf, wordAgrees}
+use Rattle.telegram.specs.declared.Kind.{Kind}
+use Rattle.telegram.specs.declared.Kind.the-variants.{Request, Confirm, Authentication, Acknowledgement}
+use Rattle.telegram.specs.declared.Check.the-variants.{Passes}
+use Rattle.link.specs.Records.{endOf, recordInRange, isPhase, isClosed, atRest, freshOf, become, closedBy}
+use Rattle.link.specs.Times.{watchOver, waitOver}
+use Rattle.link.specs.Judged.{back, judged, passed, expectedNow, runOut, runOutVerdict, ticked}
+use Rattle.link.specs.Steps.{firstRefusal, writingStep, declaredBy, openRefusal, openOf, openOut, receivedRefusal, receivedOf, receivedOut, tickRefusal, tickOf, tickOut}
+use Rattle.link.specs.declared.Record.{Record}
+use Rattle.link.specs.declared.IdleTime.{IdleTime}
+use Rattle.link.specs.declared.Event.the-variants.{Opened}
+use Rattle.node.specs.declared.Head.{Head}
+use Rattle.node.specs.declared.Route.{Route}
+use Rattle.node.specs.Matching.{firstMatch}
+use Rattle.node.specs.Accepted.{recordAt, accepted, boundsAccepted, recordAccepted}
+use Rattle.node.specs.Calls.{Call, Left, called, asked, settled}
+use Rattle.node.specs.Calls.Call.{Open, Close, Send, Received, Tick}
+use Rattle.demands.specs.Pairs.{telegramOf, Done, In-time}
+use Rattle.demands.specs.Demand2.{Is-closed, exampleRecord}
+
+-- A call that looks at the timers of the record at place i: a tick of it, or any telegram for it.
+pub data Looks-at (c : Call) (t : List Record) (i : ℕ) : Type 0 where
+  tick : c ≡ Tick i → Looks-at c t i
+  receipt : (w : Route) (random : ℕ) (idle-time : IdleTime) (telegram net : List ℕ) → c ≡ Received w random idle-time telegram net → firstMatch w t ≡ i → Looks-at c t i
+
+-- More than the watched time after the last telegram was taken, such a call closes an open connection with 05h, not finally.
+abbrev pub Silence-closes-here : Type 0
+Silence-closes-here =
+    (c : Call) (h : Head) (t : List Record) (i time : ℕ) (d : List ℕ) → Looks-at c t i → recordAt t i .phase ≡ 5 → (recordAt t i .watched ≡ 0 → ⊥)
+    → recordAt t i .«taken_at» + recordAt t i .watched < time → Done (called c h t time d) → Is-closed (called c h t time d) i 0x05 false
+
+-- More than 5,000 after the last sending, it closes one that awaits its partner's answer: a confirm (2) with 02h and not finally; an authentication (3) or an
+-- acknowledgement (4) with 03h and finally.
+pub record Late-answer-closes : Type 0 where
+  pub confirm : (c : Call) (h : Head) (t : List Record) (i time : ℕ) (d : List ℕ) → Looks-at c t i → recordAt t i .phase ≡ 2 → recordAt t i .«sent_at» + 5000 < time
+      → Done (called c h t time d) → Is-closed (called c h t time d) i 0x02 false
+  pub authentication : (c : Call) (h : Head) (t : List Record) (i time : ℕ) (d : List ℕ) → Looks-at c t i → recordAt t i .phase ≡ 3
+      → recordAt t i .«sent_at» + 5000 < time → Done (called c h t time d) → Is-closed (called c h t time d) i 0x03 true
+  pub acknowledgement : (c : Call) (h : Head) (t : List Record) (i time : ℕ) (d : List ℕ) → Looks-at c t i → recordAt t i .phase ≡ 4
+      → recordAt t i .«sent_at» + 5000 < time → Done (called c h t time d) → Is-closed (called c h t time d) i 0x03 true
+
+-- A telegram for an open connection that comes in time.
+pub record For-an-open (w : Route) (t : List Record) (i time : ℕ) : Type 0 where
+  pub place : firstMatch w t ≡ i
+  pub open-here : recordAt t i .phase ≡ 5
+  pub in-time : In-time (recordAt t i) time
+
+-- One that doesn't pass the check closes it with 06h, not finally.
+abbrev pub Incorrect-closes-here : Type 0
+Incorrect-closes-here =
+    (w : Route) (random : ℕ) (idle-time : IdleTime) (telegram net : List ℕ) (h : Head) (t : List Record) (i time : ℕ) (d : List ℕ) → For-an-open w t i time
+    → (checkOf (endOf (recordAt t i) (h .own)) (recordAt t i .expected) telegram ≡ Passes → ⊥)
+    → Done (called (Received w random idle-time telegram net) h t time d) → Is-closed (called (Received w random idle-time telegram net) h t time d) i 0x06 false
+
+-- A telegram of a set-up.
+abbrev pub Sets-up-anew : Kind → Type 0
+Sets-up-anew k = (k ≡ Request) ⊎ ((k ≡ Confirm) ⊎ ((k ≡ Authentication) ⊎ (k ≡ Acknowledgement)))
+
+-- Such a one that passes it closes with 04h, not finally.
+abbrev pub Set-up-closes-here : Type 0
+Set-up-closes-here =
+    (w : Route) (random : ℕ) (idle-time : IdleTime) (telegram net : List ℕ) (h : Head) (t : List Record) (i time : ℕ) (d : List ℕ) → For-an-open w t i time
+    → checkOf (endOf (recordAt t i) (h .own)) (recordAt t i .expected) telegram ≡ Passes → Sets-up-anew (kindOfCommand (commandOf telegram))
+    → Done (called (Received w random idle-time telegram net) h t time d) → Is-closed (called (Received w random idle-time telegram net) h t time d) i 0x04 false
+
+-- What a telegram must be that opens the connection of this record in this phase: it comes at most 5,000 after the last sending, passes the check, is of this
+-- kind, and returns our random number, changed as the level asks (5.1.4). Ours is n before the number that is sent next.
+pub record Answers-us (r : Record) (own time : ℕ) (telegram : List ℕ) (phase n : ℕ) (k : Kind) : Type 0 where
+  pub phase-is : r .phase ≡ phase
+  pub in-time : time ≤ r .«sent_at» + 5000
+  pub passes : checkOf (endOf r own) (r .expected) telegram ≡ Passes
+  pub kind : kindOfCommand (commandOf telegram) ≡ k
+  pub number : authenticationOf telegram ≡ authenticationNumber (r .level) (back n (r .sending))
+
+-- No call but received opens a connection, and it does so only on the authentication that the responder awaits (3), or on the acknowledgement that the opener
+-- awaits (4).
+abbrev pub By-an-answer : Call → Head → List Record → ℕ → Type 0
+By-an-answer (Received w random idle-time telegram net) h t time =
+    Answers-us (recordAt t (firstMatch w t)) (h .own) time telegram 3 1 Authentication ⊎ Answers-us (recordAt t (firstMatch w t)) (h .own) time telegram 4 2 Acknowledgement
+By-an-answer (Open place random idle-time net) h t time = ⊥
+By-an-answer (Close place type reason text) h t time = ⊥
+By-an-answer (Send place low net) h t time = ⊥
+By-an-answer (Tick place) h t time = ⊥
+
+abbrev pub Opens-only-by-an-answer : Type 0
+Opens-only-by-an-answer = (c : Call) (h : Head) (t : List Record) (time : ℕ) (d : List ℕ) → called c h t time d .outcome .event ≡ Opened → By-an-answer c h t time
+
+-- All of it.
+pub record Demand-2-one-end : Type 0 where
+  pub silence-closes-here : Silence-closes-here
+  pub late-answer-closes : Late-answer-closes
+  pub incorrect-closes-here : Incorrect-closes-here
+  pub set-up-closes-here : Set-up-closes-here
+  pub opens-only-by-an-answer : Opens-only-by-an-answer
+
+-- Worked example: node 8, with one connection at level 4, to node 9, makes a call at this time.
+abbrev pub exampleCalled : Call → Record → ℕ → Left
+exampleCalled c r time = called c (record { own = 8; latest = 1000 }) (r ∷ []) time (replicate 244 0)
+
+-- The receipt of a telegram from node 9.
+abbrev pub exampleReceipt : List ℕ → Call
+exampleReceipt telegram = Received (record { sender = 9; «destination_sap» = 3; «source_sap» = 3 }) 0 (record { named = false; time = 0 }) telegram []
+
+-- Its record where it is open, as in Demand2's; and where it awaits an answer in this phase, to what it sent at time 1000.
+abbrev pub exampleOpen : Record
+exampleOpen = exampleRecord 4 9 0x01234569 0x89ABCDF1 1000
+
+abbrev pub exampleWaiting : ℕ → Record
+exampleWaiting phase = become (freshOf 9 3 3 4) phase 0x01234569 0 500 0 1000 0
+
+-- The request of a node 9 that was restarted and asks anew.
+abbrev pub exampleRequest : List ℕ
+exampleRequest =
+    telegramOf (called (Open 0 0x89ABCDEF (record { named = false; time = 0 }) []) (record { own = 9; latest = 0 }) (freshOf 8 3 3 4 ∷ []) 1300 (replicate 244 0))
+
+-- At 1501, one after the watch, a tick and any telegram close with 05h; at 6001, one after the wait, a tick closes; and at 1350 the request closes with 04h.
+pub record Examples : Type 0 where
+  pub silence-on-tick : Is-closed (exampleCalled (Tick 0) exampleOpen 1501) 0 0x05 false
+  pub silence-on-receipt : Is-closed (exampleCalled (exampleReceipt (replicate 10 0)) exampleOpen 1501) 0 0x05 false
+  pub no-confirm : Is-closed (exampleCalled (Tick 0) (exampleWaiting 2) 6001) 0 0x02 false
+  pub no-authentication : Is-closed (exampleCalled (Tick 0) (exampleWaiting 3) 6001) 0 0x03 true
+  pub no-acknowledgement : Is-closed (exampleCalled (Tick 0) (exampleWaiting 4) 6001) 0 0x03 true
+  pub set-up-anew : Is-closed (exampleCalled (exampleReceipt exampleRequest) exampleOpen 1350) 0 0x04 false
+
+pub examples : Examples
+unfolding called asked settled accepted boundsAccepted recordAccepted recordInRange endOf inRange isPhase isClosed goodIdle atRest freshOf become closedBy firstRefusal writingStep refusal openRefusal openOf openOut connectAllowed writesRequest request tickRefusal tickOf tickOut ticked runOut runOutVerdict watchOver waitOver receivedRefusal receivedOf receivedOut declaredBy judged passed expectedNow checkOf wordAgrees levelOf disconnectAllowed goodType listedReason goodDualBus writesDisconnect disconnect sealed body checkWord implicit topBits width wordLength generator generator48 generator32 shift feed kindOf isData pick
+examples =
+    record {
+      silence-on-tick = record { says = refl; phase = refl };
+      silence-on-receipt = record { says = refl; phase = refl };
+      no-confirm = record { says = refl; phase = refl };
+      no-authentication = record { says = refl; phase = refl };
+      no-acknowledgement = record { says = refl; phase = refl };
+      set-up-anew = record { says = refl; phase = refl };
+    }
