@@ -204,23 +204,23 @@ watching r q e =
 
 -- and so of the nodes, under the heads that come back
 goes-on : (n : Nodes) (i j : ℕ) (c : Call) (m : Moment) → Towards n i j → Done (given n c m) → Done (got n i c m)
-    → Moved (n .table) (given n c m .table) i (m .time) (n .table′) (got n i c m .table) j (m .at) → Goes-on n i j c m
+    → Moved (n .table) (given n c m .table) i (m .sent-at) (n .table′) (got n i c m .table) j (m .received-at) → Goes-on n i j c m
 unfolding sent taken become
 goes-on n i j c m link done took moved =
-    let own = own-kept c (n .head) (n .table) (m .time) (m .out) done in
-    let own′ = own-kept _ (n .head′) (n .table′) (m .at) (m .back) took in
+    let own = own-kept c (n .head) (n .table) (m .sent-at) (m .buffer) done in
+    let own′ = own-kept _ (n .head′) (n .table′) (m .received-at) (m .buffer′) took in
     record {
       towards =
           record {
             here = moved .here;
             there = moved .there;
-            open-to = rw (own, own′, moved .left, moved .taken-is) (still-open (n .head .own) (n .head′ .own) (m .time) (m .at) (recordAt (n .table) i) (recordAt (n .table′) j) (link .open-to));
+            open-to = rw (own, own′, moved .left, moved .taken-is) (still-open (n .head .own) (n .head′ .own) (m .sent-at) (m .received-at) (recordAt (n .table) i) (recordAt (n .table′) j) (link .open-to));
           };
       back = λ b.
           record {
             here = moved .there;
             there = moved .here;
-            open-to = rw (own, own′, moved .left, moved .taken-is) (still-back (n .head .own) (n .head′ .own) (m .time) (m .at) (recordAt (n .table) i) (recordAt (n .table′) j) (b .open-to));
+            open-to = rw (own, own′, moved .left, moved .taken-is) (still-back (n .head .own) (n .head′ .own) (m .sent-at) (m .received-at) (recordAt (n .table) i) (recordAt (n .table′) j) (b .open-to));
           };
       sender-watches = watching _ _ (moved .left);
       partner-watches = watching _ _ (moved .taken-is);
@@ -296,10 +296,10 @@ module _ (h k : Head) (t u : List Record) (i j low time at random : ℕ) (idle-t
 
 pub sent-comes-up : Sent-comes-up
 sent-comes-up n i j low net m bytes link ok =
-    let watch = in-watch (recordAt (n .table′) j) (m .at) (ok .in-time) in (
-      up (n .head) (n .head′) (n .table) (n .table′) i j low (m .time) (m .at) (m .random) (m .idle-time) net (m .spare) (m .out) (m .back) bytes (ok .done) (linked n i j link) watch (ok .taken),
+    let watch = in-watch (recordAt (n .table′) j) (m .received-at) (ok .in-time) in (
+      up (n .head) (n .head′) (n .table) (n .table′) i j low (m .sent-at) (m .received-at) (m .random) (m .idle-time) net (m .net) (m .buffer) (m .buffer′) bytes (ok .done) (linked n i j link) watch (ok .taken),
       goes-on n i j (Send i low net) m link (ok .done) (ok .taken)
-          (moved (n .head) (n .head′) (n .table) (n .table′) i j low (m .time) (m .at) (m .random) (m .idle-time) net (m .spare) (m .out) (m .back) bytes (ok .done) (linked n i j link) watch (ok .taken)),
+          (moved (n .head) (n .head′) (n .table) (n .table′) i j low (m .sent-at) (m .received-at) (m .random) (m .idle-time) net (m .net) (m .buffer) (m .buffer′) bytes (ok .done) (linked n i j link) watch (ok .taken)),
     )
 
 -- Which telegram a verdict writes
@@ -391,16 +391,16 @@ module _ (h k : Head) (t u : List Record) (i j time at random : ℕ) (idle-time 
 pub idle-is-taken : Idle-is-taken
 unfolding quietly
 idle-is-taken n i j m link due ok =
-    let verdict = due-sends (recordAt (n .table) i) (m .time) (link .open-to .open-here) due in
-    let watch = in-watch (recordAt (n .table′) j) (m .at) (ok .in-time) in
+    let verdict = due-sends (recordAt (n .table) i) (m .sent-at) (link .open-to .open-here) due in
+    let watch = in-watch (recordAt (n .table′) j) (m .received-at) (ok .in-time) in
     let there =
-    idle-there (n .head) (n .head′) (n .table) (n .table′) i j (m .time) (m .at) (m .random) (m .idle-time) (m .spare) (m .out) (m .back) (ok .done) verdict (linked n i j link) watch (ok .taken) in
-    let wrote-it = idle-writes (n .head) (n .head′) (n .table) (n .table′) i j (m .time) (m .at) (m .random) (m .idle-time) (m .spare) (m .out) (m .back) (ok .done) verdict in (
-      ap (λ (y : Answer). y .telegram) (carried (Tick i) (n .head) (n .table) (m .time) (m .out) (ok .done) .answer) ∙ wrote-it .telegram,
+    idle-there (n .head) (n .head′) (n .table) (n .table′) i j (m .sent-at) (m .received-at) (m .random) (m .idle-time) (m .net) (m .buffer) (m .buffer′) (ok .done) verdict (linked n i j link) watch (ok .taken) in
+    let wrote-it = idle-writes (n .head) (n .head′) (n .table) (n .table′) i j (m .sent-at) (m .received-at) (m .random) (m .idle-time) (m .net) (m .buffer) (m .buffer′) (ok .done) verdict in (
+      ap (λ (y : Answer). y .telegram) (carried (Tick i) (n .head) (n .table) (m .sent-at) (m .buffer) (ok .done) .answer) ∙ wrote-it .telegram,
       (
         ap (λ (y : Event). happened y .event) (there .event),
         goes-on n i j (Tick i) m link (ok .done) (ok .taken)
-            (movedᵢ (n .head) (n .head′) (n .table) (n .table′) i j (m .time) (m .at) (m .random) (m .idle-time) (m .spare) (m .out) (m .back) (ok .done) verdict (linked n i j link) watch (ok .taken)),
+            (movedᵢ (n .head) (n .head′) (n .table) (n .table′) i j (m .sent-at) (m .received-at) (m .random) (m .idle-time) (m .net) (m .buffer) (m .buffer′) (ok .done) verdict (linked n i j link) watch (ok .taken)),
       ),
     )
 
@@ -548,26 +548,26 @@ module _ (n : Nodes) (i j : ℕ) (c : Call) (m : Moment) (place : placeOf c (n .
 
   abbrev Wrote-one : ℕ → Bool → Type 0
   Wrote-one reason last =
-      Disconnects r₅ (n .head .own) (m .out) (stepIn c (n .head) (n .table) (m .time) (m .out)) (stepOut c r₅ (n .head .own) (m .time) (m .out)) reason last
+      Disconnects r₅ (n .head .own) (m .buffer) (stepIn c (n .head) (n .table) (m .sent-at) (m .buffer)) (stepOut c r₅ (n .head .own) (m .sent-at) (m .buffer)) reason last
 
   -- the telegram is taken by the mirrored end
-  module _ (reason : ℕ) (last : Bool) (g : Carried c (n .head) (n .table) (m .time) (m .out)) (s : Wrote-one reason last) where
+  module _ (reason : ℕ) (last : Bool) (g : Carried c (n .head) (n .table) (m .sent-at) (m .buffer)) (s : Wrote-one reason last) where
     is-taken₅ : Taken (endOf (recordAt (n .table) i) (n .head .own)) (recordAt (n .table) i .sending) (telegramOf (given n c m)) kind.Disconnect (s .type ∷ reason ∷ []) (s .text)
     is-taken₅ =
         subst (λ (y : ℕ). Taken (endOf (recordAt (n .table) y) (n .head .own)) (recordAt (n .table) y .sending) (telegramOf (given n c m)) kind.Disconnect (s .type ∷ reason ∷ []) (s .text)) place
         (subst (λ (z : List ℕ). Taken (endOf r₅ (n .head .own)) (r₅ .sending) z kind.Disconnect (s .type ∷ reason ∷ []) (s .text))
-        (sym (told-by c (n .head) (n .table) (m .time) (m .out) _ g (s .telegram)))
-        (disconnect-taken (endOf r₅ (n .head .own)) (r₅ .sending) (s .type) reason (s .text) (m .out) _ (s .bytes) (s .written)))
+        (sym (told-by c (n .head) (n .table) (m .sent-at) (m .buffer) _ g (s .telegram)))
+        (disconnect-taken (endOf r₅ (n .head .own)) (r₅ .sending) (s .type) reason (s .text) (m .buffer) _ (s .bytes) (s .written)))
 
     closes : Towards n i j → Arrives n i j c m → Closed-with (given n c m) (got n i c m) i j reason last
     unfolding quietly
     closes link ok =
         let q = recordAt (n .table′) j in
         let there =
-        taken-there (given n c m) (n .head) (n .head′) (n .table) (n .table′) i j (m .at) (m .random) (m .idle-time) (m .spare) (m .back) kind.Disconnect (s .type ∷ reason ∷ []) (s .text)
-        (linked n i j link) (in-watch q (m .at) (ok .in-time)) is-taken₅ (ok .taken) in
+        taken-there (given n c m) (n .head) (n .head′) (n .table) (n .table′) i j (m .received-at) (m .random) (m .idle-time) (m .net) (m .buffer′) kind.Disconnect (s .type ∷ reason ∷ []) (s .text)
+        (linked n i j link) (in-watch q (m .received-at) (ok .in-time)) is-taken₅ (ok .taken) in
         record {
-          here = subst (λ (y : ℕ). Is-closed (given n c m) y reason last) place (closed-by c (n .head) (n .table) (m .time) (m .out) reason last g s);
+          here = subst (λ (y : ℕ). Is-closed (given n c m) y reason last) place (closed-by c (n .head) (n .table) (m .sent-at) (m .buffer) reason last g s);
           there =
               record {
                 says = there .event ∙ ap (λ (vs : List ℕ). event.Closed (getD vs 1 0) (eqb (getD vs 0 0) 0)) (is-taken₅ .fields) ∙ ap (event.Closed reason) (s .finally);
@@ -579,32 +579,32 @@ module _ (n : Nodes) (i j : ℕ) (c : Call) (m : Moment) (place : placeOf c (n .
 
 pub close-closes : Close-closes
 close-closes n i j type reason text m bytes link ok =
-    let g = carried (Close i type reason text) (n .head) (n .table) (m .time) (m .out) (ok .done) in
-    closes n i j (Close i type reason text) m refl reason (eqb type 0) g (close-closes-step i type reason text (recordAt (n .table) i) (n .head .own) (m .time) (m .out) bytes (g .number)) link ok
+    let g = carried (Close i type reason text) (n .head) (n .table) (m .sent-at) (m .buffer) (ok .done) in
+    closes n i j (Close i type reason text) m refl reason (eqb type 0) g (close-closes-step i type reason text (recordAt (n .table) i) (n .head .own) (m .sent-at) (m .buffer) bytes (g .number)) link ok
 
 pub silence-closes : Silence-closes
 unfolding pick
 silence-closes n i j m link some over ok =
     let r = recordAt (n .table) i in
-    let g = carried (Tick i) (n .head) (n .table) (m .time) (m .out) (ok .done) in
+    let g = carried (Tick i) (n .head) (n .table) (m .sent-at) (m .buffer) (ok .done) in
     let p = link .open-to .open-here in
-    let v = by-the-table .silent r 0 (m .time) [] p (watch-ran-out r (m .time) p some over) .1 in
-    closes n i j (Tick i) m refl 0x05 false g (tick-disconnects (n .head) (n .table) i (m .time) (m .out) 0x05 false v g) link ok
+    let v = by-the-table .silent r 0 (m .sent-at) [] p (watch-ran-out r (m .sent-at) p some over) .1 in
+    closes n i j (Tick i) m refl 0x05 false g (tick-disconnects (n .head) (n .table) i (m .sent-at) (m .buffer) 0x05 false v g) link ok
 
 pub incorrect-closes : Incorrect-closes
 incorrect-closes n i j random idle-time w telegram net m link place early fails ok =
-    let g = carried (Received w random idle-time telegram net) (n .head) (n .table) (m .time) (m .out) (ok .done) in
-    let v : judged (recordAt (n .table) (firstMatch w (n .table))) (n .head .own) (m .time) telegram ≡ Closes 0x06 false =
-    subst (λ (y : ℕ). judged (recordAt (n .table) y) (n .head .own) (m .time) telegram ≡ Closes 0x06 false) (sym place)
-    (failing-closes (recordAt (n .table) i) (n .head .own) (m .time) telegram (link .open-to .open-here) early fails) in
+    let g = carried (Received w random idle-time telegram net) (n .head) (n .table) (m .sent-at) (m .buffer) (ok .done) in
+    let v : judged (recordAt (n .table) (firstMatch w (n .table))) (n .head .own) (m .sent-at) telegram ≡ Closes 0x06 false =
+    subst (λ (y : ℕ). judged (recordAt (n .table) y) (n .head .own) (m .sent-at) telegram ≡ Closes 0x06 false) (sym place)
+    (failing-closes (recordAt (n .table) i) (n .head .own) (m .sent-at) telegram (link .open-to .open-here) early fails) in
     closes n i j (Received w random idle-time telegram net) m place 0x06 false g
-    (receipt-disconnects (n .head) (n .table) w random idle-time telegram net (m .time) (m .out) 0x06 false v g) link ok
+    (receipt-disconnects (n .head) (n .table) w random idle-time telegram net (m .sent-at) (m .buffer) 0x06 false v g) link ok
 
 pub disconnect-closes : Disconnect-closes
 disconnect-closes n i j c m place bytes link ok five =
-    let g = carried c (n .head) (n .table) (m .time) (m .out) (ok .done) in
+    let g = carried c (n .head) (n .table) (m .sent-at) (m .buffer) (ok .done) in
     let s =
-    disconnecting c (recordAt (n .table) (placeOf c (n .table))) (n .head .own) (m .time) (m .out) bytes (g .number) (ap (λ (y : Answer). y .telegram) (sym (g .answer)) ∙ five) in
+    disconnecting c (recordAt (n .table) (placeOf c (n .table))) (n .head .own) (m .sent-at) (m .buffer) bytes (g .number) (ap (λ (y : Answer). y .telegram) (sym (g .answer)) ∙ five) in
     (s .reason, (s .last, closes n i j c m place (s .reason) (s .last) g (s .disconnects) link ok))
 
 -- Nothing is refused
@@ -613,7 +613,7 @@ disconnect-closes n i j c m place bytes link ok five =
 taken-done : (n : Nodes) (i j : ℕ) (c : Call) (m : Moment) (v : Kind) (vs net : List ℕ) → Towards n i j → Nothing-wrong n j m
     → Taken (endOf (recordAt (n .table) i) (n .head .own)) (recordAt (n .table) i .sending) (telegramOf (given n c m)) v vs net → Done (got n i c m)
 taken-done n i j c m v vs net link ok y =
-    received-done (n .head .own) (recordAt (n .table) i) (n .head′) (n .table′) j (m .at) (m .random) (m .idle-time) (telegramOf (given n c m)) (m .spare) (m .back) (ok .table-there) (ok .room-there)
+    received-done (n .head .own) (recordAt (n .table) i) (n .head′) (n .table′) j (m .received-at) (m .random) (m .idle-time) (telegramOf (given n c m)) (m .net) (m .buffer′) (ok .table-there) (ok .room-there)
     (ok .time-there) (passed (mirrored (endOf (recordAt (n .table) i) (n .head .own))) (recordAt (n .table) i .sending) (telegramOf (given n c m)) (y .passes) .on-bus) (link .open-to .ends) (link .there)
     (λ p. let z : _≡_ {A = ℕ} 5 6 = sym (link .open-to .open-there) ∙ p in absurd (omega arith)) (ok .lent)
 
@@ -633,23 +633,23 @@ nothing-refused =
           let r = recordAt (n .table) i in
           let p = link .open-to .open-here in
           let done =
-          done-by (Send i low net) (n .head) (n .table) (m .time) (m .out) (ok .table-here) (ok .room-here) (ok .time-here) refl (link .here) (open-live r p) (eq-eqb (r .phase) 5 p) fits in
-          (done, taken-done n i j (Send i low net) m kind.Data [] net link ok (is-taken (n .head) (n .head′) (n .table) (n .table′) i j low (m .time) (m .at) (m .random) (m .idle-time) net (m .spare) (m .out) (m .back) bytes done));
+          done-by (Send i low net) (n .head) (n .table) (m .sent-at) (m .buffer) (ok .table-here) (ok .room-here) (ok .time-here) refl (link .here) (open-live r p) (eq-eqb (r .phase) 5 p) fits in
+          (done, taken-done n i j (Send i low net) m kind.Data [] net link ok (is-taken (n .head) (n .head′) (n .table) (n .table′) i j low (m .sent-at) (m .received-at) (m .random) (m .idle-time) net (m .net) (m .buffer) (m .buffer′) bytes done));
       by-tick = λ n i j m link ok due.
           let r = recordAt (n .table) i in
           let p = link .open-to .open-here in
-          let done = done-by (Tick i) (n .head) (n .table) (m .time) (m .out) (ok .table-here) (ok .room-here) (ok .time-here) refl (link .here) (open-live r p) refl refl in (
+          let done = done-by (Tick i) (n .head) (n .table) (m .sent-at) (m .buffer) (ok .table-here) (ok .room-here) (ok .time-here) refl (link .here) (open-live r p) refl refl in (
             done,
             taken-done n i j (Tick i) m kind.Idle [] [] link ok
-                (is-takenᵢ (n .head) (n .head′) (n .table) (n .table′) i j (m .time) (m .at) (m .random) (m .idle-time) (m .spare) (m .out) (m .back) done (due-sends r (m .time) p due)),
+                (is-takenᵢ (n .head) (n .head′) (n .table) (n .table′) i j (m .sent-at) (m .received-at) (m .random) (m .idle-time) (m .net) (m .buffer) (m .buffer′) done (due-sends r (m .sent-at) p due)),
           );
       by-close = λ n i j type reason text m bytes link ok fits.
           let r = recordAt (n .table) i in
           let p = link .open-to .open-here in
           let done =
-          done-by (Close i type reason text) (n .head) (n .table) (m .time) (m .out) (ok .table-here) (ok .room-here) (ok .time-here) refl (link .here) (open-live r p) (open-closes r p) fits in
-          let g = carried (Close i type reason text) (n .head) (n .table) (m .time) (m .out) done in
-          let s = close-closes-step i type reason text r (n .head .own) (m .time) (m .out) bytes (g .number) in
+          done-by (Close i type reason text) (n .head) (n .table) (m .sent-at) (m .buffer) (ok .table-here) (ok .room-here) (ok .time-here) refl (link .here) (open-live r p) (open-closes r p) fits in
+          let g = carried (Close i type reason text) (n .head) (n .table) (m .sent-at) (m .buffer) done in
+          let s = close-closes-step i type reason text r (n .head .own) (m .sent-at) (m .buffer) bytes (g .number) in
           (done, taken-done n i j (Close i type reason text) m kind.Disconnect (s .type ∷ reason ∷ []) (s .text) link ok (is-taken₅ n i j (Close i type reason text) m refl reason (eqb type 0) g s));
     }
 

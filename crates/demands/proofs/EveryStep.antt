@@ -91,7 +91,7 @@ record Kept (n : Nodes) (i : ℕ) (c : Call) (m : Moment) : Type 0 where
 unchanged : (n : Nodes) (i : ℕ) (c : Call) (m : Moment) → (Done (sent n c m) → ⊥) → Kept n i c m
 unfolding refusedOutcome
 unchanged n i c m not-done =
-    let s = refused-changes-nothing c (n .head) (n .table) (m .time) (m .out) not-done in
+    let s = refused-changes-nothing c (n .head) (n .table) (m .sent-at) (m .buffer) not-done in
     record {
       own = ap (λ (y : Outcome). y .head .own) (s .0);
       left = ap (λ (y : List Record). recordAt y i) (s .1 .0);
@@ -110,8 +110,8 @@ kept : (n : Nodes) (i : ℕ) (c : Call) (m : Moment) → recordAt (n .table) i .
 kept n i c m p (elsewhere other) =
     either n i c m
     (λ done. record {
-      own = own-kept c (n .head) (n .table) (m .time) (m .out) done;
-      left = others-unchanged .records c (n .head) (n .table) (m .time) (m .out) i (λ e. other (sym e));
+      own = own-kept c (n .head) (n .table) (m .sent-at) (m .buffer) done;
+      left = others-unchanged .records c (n .head) (n .table) (m .sent-at) (m .buffer) i (λ e. other (sym e));
       silent = λ place. absurd (other place);
     })
 kept n i c m p (refused not-done) = unchanged n i c m not-done
@@ -119,11 +119,11 @@ kept n i c m p (early f ok not-yet) =
     rw f
     (either n i (Tick i) m
     (λ done.
-    let g = carried (Tick i) (n .head) (n .table) (m .time) (m .out) done in
-    let q = quiet-step (recordAt (n .table) i) (n .head .own) (m .time) (m .out) p ok not-yet in
+    let g = carried (Tick i) (n .head) (n .table) (m .sent-at) (m .buffer) done in
+    let q = quiet-step (recordAt (n .table) i) (n .head .own) (m .sent-at) (m .buffer) p ok not-yet in
     record {
-      own = own-kept (Tick i) (n .head) (n .table) (m .time) (m .out) done;
-      left = left-by (Tick i) (n .head) (n .table) (m .time) (m .out) g ∙ q .0;
+      own = own-kept (Tick i) (n .head) (n .table) (m .sent-at) (m .buffer) done;
+      left = left-by (Tick i) (n .head) (n .table) (m .sent-at) (m .buffer) g ∙ q .0;
       silent = λ place. ap (λ (y : Event). happened y .event) (g .event ∙ q .1);
     }))
 
@@ -139,7 +139,7 @@ unheard w n i c m k = by (eqb (placeOf c (n .table)) i) refl
 -- so the two are connected as before
 stay : (n : Nodes) (i j : ℕ) (c : Call) (m : Moment) → Connected n i j → Kept n i c m → Connected (alone n c m) i j
 stay n i j c m y k =
-    let count = others-unchanged .count c (n .head) (n .table) (m .time) (m .out) in
+    let count = others-unchanged .count c (n .head) (n .table) (m .sent-at) (m .buffer) in
     record {
       towards = record { here = rw count (y .towards .here); there = y .towards .there; open-to = rw (k .own, k .left) (y .towards .open-to) };
       back = record { here = y .back .here; there = rw count (y .back .there); open-to = rw (k .own, k .left) (y .back .open-to) };

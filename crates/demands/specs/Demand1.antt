@@ -22,7 +22,7 @@ use Rattle.node.specs.Accepted.{accepted, boundsAccepted, recordAccepted}
 use Rattle.node.specs.Calls.{Call, asked, refusedOutcome, called}
 use Rattle.node.specs.Calls.Call.{Send, Received}
 use Rattle.node.specs.Facts.{First-answered, Refused-changes-nothing}
-use Rattle.demands.specs.Demand2.{exampleRecord}
+use Rattle.demands.specs.Examples.{exampleRecord}
 
 -- A step of one connection that is refused leaves record and buffer as they were.
 pub record Refused-steps-change-nothing : Type 0 where

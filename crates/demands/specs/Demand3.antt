@@ -42,7 +42,8 @@ use Rattle.node.specs.Accepted.{recordAt, accepted, boundsAccepted, recordAccep
 use Rattle.node.specs.Calls.{Left, called, asked, settled}
 use Rattle.node.specs.Calls.Call.{Received}
 use Rattle.demands.specs.Pairs.{Done, In-time}
-use Rattle.demands.specs.Demand2.{Is-closed, exampleRecord}
+use Rattle.demands.specs.Demand2.{Is-closed}
+use Rattle.demands.specs.Examples.{exampleRecord}
 
 -- Two different records of an accepted table.
 pub record Two (h : Head) (t : List Record) (i j : ℕ) : Type 0 where

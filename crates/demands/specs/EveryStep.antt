@@ -31,7 +31,8 @@ use Rattle.node.specs.Calls.{Call, placeOf, called, asked, refusedOutcome, sett
 use Rattle.node.specs.Calls.Call.{Send, Tick}
 use Rattle.node.specs.Plain.{dataOf}
 use Rattle.demands.specs.Pairs.{telegramOf, Done, Nodes, turned, Connected, Moment, sent, got, after, In-time, Arrives}
-use Rattle.demands.specs.Demand2.{Due, exampleNodes, exampleMoment}
+use Rattle.demands.specs.Demand2.{Due}
+use Rattle.demands.specs.Examples.{exampleNodes, exampleMoment}
 
 -- From the first node to the second, or back.
 pub data Way : Type 0 where
@@ -73,12 +74,12 @@ then-on n i j (meanwhile w c m) = facing w (alone (facing w n) c m)
 pub data Nothing-to (n : Nodes) (i : ℕ) (c : Call) (m : Moment) : Type 0 where
   elsewhere : (placeOf c (n .table) ≡ i → ⊥) → Nothing-to n i c m
   refused : (Done (sent n c m) → ⊥) → Nothing-to n i c m
-  early : c ≡ Tick i → In-time (recordAt (n .table) i) (m .time) → (Due (recordAt (n .table) i) (m .time) → ⊥) → Nothing-to n i c m
+  early : c ≡ Tick i → In-time (recordAt (n .table) i) (m .sent-at) → (Due (recordAt (n .table) i) (m .sent-at) → ⊥) → Nothing-to n i c m
 
 -- What each needs: a message has bytes and arrives; an idle telegram is due and arrives.
 abbrev pub Goes-well : Nodes → ℕ → ℕ → Exchange → Type 0
 Goes-well n i j (message w low net m) = Bytes net × Arrives (facing w n) (caller w i j) (partner w i j) (Send (caller w i j) low net) m
-Goes-well n i j (idle w m) = Due (recordAt (facing w n .table) (caller w i j)) (m .time) × Arrives (facing w n) (caller w i j) (partner w i j) (Tick (caller w i j)) m
+Goes-well n i j (idle w m) = Due (recordAt (facing w n .table) (caller w i j)) (m .sent-at) × Arrives (facing w n) (caller w i j) (partner w i j) (Tick (caller w i j)) m
 Goes-well n i j (meanwhile w c m) = Nothing-to (facing w n) (caller w i j) c m
 
 abbrev pub All-go-well : Nodes → ℕ → ℕ → List Exchange → Type 0

@@ -4,6 +4,7 @@ pub mod Demand2
 pub mod Demand3
 pub mod Demands
 pub mod EveryStep
+pub mod Examples
 pub mod OneEnd
 pub mod Law
 pub mod SetUp

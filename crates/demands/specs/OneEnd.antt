@@ -34,7 +34,8 @@ use Rattle.node.specs.Accepted.{recordAt, accepted, boundsAccepted, recordAccep
 use Rattle.node.specs.Calls.{Call, Left, called, asked, settled}
 use Rattle.node.specs.Calls.Call.{Open, Close, Send, Received, Tick}
 use Rattle.demands.specs.Pairs.{telegramOf, Done, In-time}
-use Rattle.demands.specs.Demand2.{Is-closed, exampleRecord}
+use Rattle.demands.specs.Demand2.{Is-closed}
+use Rattle.demands.specs.Examples.{exampleRecord}
 
 -- A call that looks at the timers of the record at place i: a tick of it, or any telegram for it.
 pub data Looks-at (c : Call) (t : List Record) (i : ℕ) : Type 0 where

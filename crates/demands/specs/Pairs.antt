@@ -71,22 +71,22 @@ pub record Watching (r : Record) (declares watches sent-at taken-at : ℕ) : Typ
 
 -- The circumstances of a telegram: when it is sent and when it is received, the buffers of both ends, and what the receiving call lends for a possible confirm.
 pub record Moment : Type 0 where
-  pub time : ℕ
-  pub at : ℕ
-  pub out : List ℕ
-  pub back : List ℕ
+  pub sent-at : ℕ
+  pub received-at : ℕ
+  pub buffer : List ℕ
+  pub buffer′ : List ℕ
   pub random : ℕ
   pub idle-time : IdleTime
-  pub spare : List ℕ
+  pub net : List ℕ
 
 -- A call of the sender.
 abbrev pub sent : Nodes → Call → Moment → Left
-sent n c m = called c (n .head) (n .table) (m .time) (m .out)
+sent n c m = called c (n .head) (n .table) (m .sent-at) (m .buffer)
 
 -- The call with which the partner takes what it wrote for the record at place i: the telegram, under the address and SAPs that it was sent under.
 abbrev pub got : Nodes → ℕ → Call → Moment → Left
 got n i c m =
-    called (Received (routeFrom (n .head .own) (recordAt (n .table) i)) (m .random) (m .idle-time) (telegramOf (sent n c m)) (m .spare)) (n .head′) (n .table′) (m .at) (m .back)
+    called (Received (routeFrom (n .head .own) (recordAt (n .table) i)) (m .random) (m .idle-time) (telegramOf (sent n c m)) (m .net)) (n .head′) (n .table′) (m .received-at) (m .buffer′)
 
 -- The nodes afterwards.
 abbrev pub after : Nodes → ℕ → Call → Moment → Nodes
@@ -100,15 +100,15 @@ In-time r time = (r .watched ≡ 0 → ⊥) → time ≤ r .«taken_at» + r .wa
 pub record Arrives (n : Nodes) (i j : ℕ) (c : Call) (m : Moment) : Type 0 where
   pub done : Done (sent n c m)
   pub taken : Done (got n i c m)
-  pub in-time : In-time (recordAt (n .table′) j) (m .at)
+  pub in-time : In-time (recordAt (n .table′) j) (m .received-at)
 
 -- Nothing stands in the way of the two calls: both tables are accepted, both buffers have room, neither clock goes back, and what is lent for a possible confirm
 -- is allowed.
 pub record Nothing-wrong (n : Nodes) (j : ℕ) (m : Moment) : Type 0 where
   pub table-here : accepted (n .head) (n .table) ≡ true
-  pub room-here : 244 ≤ length (m .out)
-  pub time-here : n .head .latest ≤ m .time
+  pub room-here : 244 ≤ length (m .buffer)
+  pub time-here : n .head .latest ≤ m .sent-at
   pub table-there : accepted (n .head′) (n .table′) ≡ true
-  pub room-there : 244 ≤ length (m .back)
-  pub time-there : n .head′ .latest ≤ m .at
-  pub lent : connectAllowed (declaredBy (m .idle-time)) (length (m .spare)) (recordAt (n .table′) j .level) ≡ true
+  pub room-there : 244 ≤ length (m .buffer′)
+  pub time-there : n .head′ .latest ≤ m .received-at
+  pub lent : connectAllowed (declaredBy (m .idle-time)) (length (m .net)) (recordAt (n .table′) j .level) ≡ true
