@@ -1,8 +1,6 @@
 -- Demand 1, by the facts of the calls and of the steps.
 -- Assumes nothing.
-use mathlib.Core.Path.{_≡_, refl, sym, _∙_}
-use mathlib.Core.List.{List}
-use Prim.Native.Nat.{ℕ}
+use mathlib.Core.Path.{refl, _∙_}
 use borrow.Author.Tests.{ne-eqb}
 use Rattle.telegram.specs.Choice.{pick}
 use Rattle.telegram.specs.Writers.Outcome.{refused, wrote}

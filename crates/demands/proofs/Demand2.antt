@@ -53,7 +53,7 @@ use Rattle.node.specs.Matching.{isFor, firstMatch}
 use Rattle.node.specs.Calls.{Call, Left, placeOf, stepOf, stepOut, called}
 use Rattle.node.specs.Calls.Call.{Open, Close, Send, Received, Tick}
 use Rattle.node.proofs.Facts.{by-route, net-data-handed-on, others-unchanged, partners-stay, stays-accepted}
-use Rattle.demands.specs.Pairs.{Mirror, Open-to, telegramOf, routeFrom, Done, Nodes, Towards, Watching, Moment, sent as given, got, after, In-time, Arrives, Nothing-wrong}
+use Rattle.demands.specs.Pairs.{Mirror, Open-to, telegramOf, routeFrom, Done, Nodes, Towards, Watching, Moment, sent as given, got, In-time, Arrives, Nothing-wrong}
 use Rattle.demands.specs.Demand2.{Comes-up, Goes-on, Sent-comes-up, Due, Idle-is-taken, Is-closed, Closed-with, Close-closes, Silence-closes, Incorrect-closes, textOf, Disconnect-closes, Nothing-refused, Demand-2-one-step}
 use Rattle.demands.proofs.Carried.{Carried, carried, stepIn, done-by}
 use Rattle.demands.proofs.Steps.{Writes, writes, taken-in, judged-open}

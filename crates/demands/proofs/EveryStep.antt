@@ -3,16 +3,14 @@
 use mathlib.Core.Path.{_≡_, refl, sym, ap, _∙_}
 use mathlib.Core.Bool.{Bool, true, false}
 use mathlib.Core.List.{List, [], _∷_, _++_}
-use Prim.Native.Nat.{ℕ, _*_, _≤_}
+use Prim.Native.Nat.{ℕ, _*_}
 use native.Mathlib.Omega.{arith}
-use lib.ListN.{length}
 use lib.Dec.{leb, eqb}
 use borrow.Author.Tests.{eq-eqb, ne-eqb, eqb-true, eqb-false, leb-true}
 use Rattle.telegram.specs.Choice.{pick}
-use Rattle.link.specs.Records.{endOf}
 use Rattle.link.specs.Times.{gap, watchOver, idleDue}
 use Rattle.link.specs.Judged.{runOut, ticked}
-use Rattle.link.specs.Steps.{unlessStep, quietly, refusedStep, tickRefusal, tickOf}
+use Rattle.link.specs.Steps.{quietly, refusedStep, tickRefusal, tickOf}
 use Rattle.link.specs.Plain.{happened}
 use Rattle.link.specs.declared.Record.{Record}
 use Rattle.link.specs.declared.Event.{Event}
@@ -23,7 +21,7 @@ use Rattle.node.specs.Accepted.{recordAt}
 use Rattle.node.specs.Calls.{Call, placeOf, refusedOutcome}
 use Rattle.node.specs.Calls.Call.{Send, Tick}
 use Rattle.node.proofs.Facts.{refused-changes-nothing, others-unchanged}
-use Rattle.demands.specs.Pairs.{telegramOf, Done, Nodes, turned, Towards, Connected, Moment, sent, got, after, In-time}
+use Rattle.demands.specs.Pairs.{telegramOf, Done, Nodes, Connected, Moment, sent, got, after, In-time}
 use Rattle.demands.specs.Demand2.{Comes-up, Goes-on, Due}
 use Rattle.demands.specs.EveryStep.{Way, Exchange, facing, caller, partner, alone, then-on, Nothing-to, Goes-well, handedBy, heard, messages, Demand-2-over-every-step}
 use Rattle.demands.specs.EveryStep.Way.{there, back}

@@ -20,7 +20,7 @@ use Rattle.telegram.specs.declared.Check.{Check}
 use Rattle.telegram.specs.declared.Check.the-variants.{Passes, Failed, Refused}
 use Rattle.telegram.specs.declared.Written.{Written}
 use Rattle.link.specs.Records.{endOf, become, closedBy}
-use Rattle.link.specs.Table.{Timeout-rcv, Timeout-brk, Timeout-snd, Incorrect-rcv-1st}
+use Rattle.link.specs.Table.{Timeout-brk, Timeout-snd, Incorrect-rcv-1st}
 use Rattle.link.specs.Times.{gap, waitOver, idleDue}
 use Rattle.link.specs.Judged.{rowOf, ruled, narrowed, checkedBy, back, goodVersion, goodNumber, expectedNow, runOut, runOutVerdict, passed, judged, ticked}
 use Rattle.link.specs.Steps.{next, sent, unlessStep, refusedStep, quietly, writingStep, actOf, declaredBy, openRefusal, openOf, closeRefusal, closeOf, sendRefusal, sendOf, receivedRefusal, receivedOf, tickRefusal, tickOf}
@@ -40,7 +40,7 @@ use Rattle.node.specs.declared.Route.{Route}
 use Rattle.node.specs.declared.Outcome.{Outcome}
 use Rattle.node.specs.Accepted.{recordAt}
 use Rattle.node.specs.Matching.{firstMatch}
-use Rattle.node.specs.Calls.{Call, stepOf, refusedOutcome, called}
+use Rattle.node.specs.Calls.{Call, refusedOutcome, called}
 use Rattle.node.specs.Calls.Call.{Open, Close, Send, Received, Tick}
 use Rattle.node.proofs.Facts.{refused-changes-nothing}
 use Rattle.demands.specs.Pairs.{Done}
@@ -48,7 +48,7 @@ use Rattle.demands.specs.Demand2.{Is-closed}
 use Rattle.demands.specs.OneEnd.{Looks-at, Silence-closes-here, Late-answer-closes, Incorrect-closes-here, Set-up-closes-here, Answers-us, By-an-answer, Opens-only-by-an-answer, Demand-2-one-end}
 use Rattle.demands.specs.OneEnd.Looks-at.{tick, receipt}
 use Rattle.demands.proofs.Carried.{carried, stepIn}
-use Rattle.demands.proofs.Steps.{taken-in, judged-open}
+use Rattle.demands.proofs.Steps.{judged-open}
 use Rattle.demands.proofs.Demand2.{in-watch, expects, watch-ran-out, failing-closes, closed-by, tick-disconnects, receipt-disconnects}
 
 -- What closes

@@ -17,7 +17,6 @@ use Rattle.link.specs.Steps.{openOf, openOut, closeOf, closeOut, sendOf, sendOu
 use Rattle.link.specs.Facts.{Answers}
 use Rattle.link.specs.declared.Record.{Record}
 use Rattle.link.specs.declared.IdleTime.{IdleTime}
-use Rattle.node.specs.declared.Head.{Head}
 use Rattle.node.specs.Accepted.{accepted, boundsAccepted, recordAccepted}
 use Rattle.node.specs.Calls.{Call, asked, refusedOutcome, called}
 use Rattle.node.specs.Calls.Call.{Send, Received}

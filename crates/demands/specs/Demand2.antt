@@ -8,12 +8,10 @@ use lib.ListN.{length}
 use lib.Dec.{eqb}
 use Rattle.checkword.specs.Bytes.{Bytes}
 use Rattle.telegram.specs.Choice.{pick}
-use Rattle.telegram.specs.Telegrams.{idle, disconnect}
 use Rattle.telegram.specs.Writers.{dataAllowed, disconnectAllowed}
 use Rattle.telegram.specs.Check.{checkOf}
 use Rattle.telegram.specs.declared.Check.the-variants.{Passes}
 use Rattle.link.specs.Records.{endOf}
-use Rattle.link.specs.Judged.{passed}
 use Rattle.link.specs.Plain.{happened}
 use Rattle.link.specs.declared.Record.{Record}
 use Rattle.link.specs.declared.IdleTime.{IdleTime}
@@ -21,7 +19,7 @@ use Rattle.link.specs.declared.Event.{Event}
 use Rattle.link.specs.declared.Event.the-variants.{Closed}
 use Rattle.node.specs.declared.Route.{Route}
 use Rattle.node.specs.Matching.{firstMatch}
-use Rattle.node.specs.Accepted.{recordAt, accepted}
+use Rattle.node.specs.Accepted.{recordAt}
 use Rattle.node.specs.Calls.{Call, Left, placeOf}
 use Rattle.node.specs.Calls.Call.{Open, Close, Send, Received, Tick}
 use Rattle.node.specs.Plain.{dataOf}

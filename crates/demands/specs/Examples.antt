@@ -5,7 +5,7 @@ use mathlib.Core.Bool.{false}
 use mathlib.Core.List.{List, [], _∷_}
 use Prim.Native.Nat.{ℕ, _+_, _≤_, _<_}
 use native.Mathlib.Omega.{arith}
-use lib.ListN.{length, replicate}
+use lib.ListN.{replicate}
 use lib.Dec.{lit<, lit≤}
 use Rattle.checkword.specs.Bytes.{Bytes}
 use Rattle.checkword.specs.Generators.{generator48, generator32}
@@ -30,7 +30,7 @@ use Rattle.link.specs.declared.Record.{Record}
 use Rattle.node.specs.Accepted.{recordAt, accepted, boundsAccepted, recordAccepted}
 use Rattle.node.specs.Calls.{Call, placeOf, called, asked, settled}
 use Rattle.node.specs.Calls.Call.{Close, Send, Received, Tick}
-use Rattle.demands.specs.Pairs.{Nodes, Connected, Moment, sent, after, Arrives, Nothing-wrong}
+use Rattle.demands.specs.Pairs.{Nodes, Connected, Moment, sent, Arrives, Nothing-wrong}
 use Rattle.demands.specs.Demand2.{Due}
 
 -- Worked example: node 8 and node 9, each with one connection, to the other, from SAP 3 to SAP 3 at this level. It is open since time 1000, after the random
