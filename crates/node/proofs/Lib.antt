@@ -8,5 +8,6 @@ pub mod Order
 pub mod Rows
 pub mod Searches
 pub mod Shared
+pub mod Stepping
 pub mod Walk
 pub mod Walking

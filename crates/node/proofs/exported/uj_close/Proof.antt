@@ -3,7 +3,8 @@
 use Rattle.node.specs.Calls.Call.{Close}
 use Rattle.node.specs.Plain.{plain as plainly}
 use Rattle.node.proofs.Walking.{refl, ap, List, [], _∷_, URA, w32, w64, SProp, emp, id⊢, Memory, Routine, Heap, Calls, Loops, Atoms, Fun, factI, givenOf, tables, tablesOf, FmC, fmOf, Given, _$_, !, by, move, now, cited, Triple}
-use Rattle.node.proofs.Walking.{vals, reborrows, Param, number, table, head, bytes, buffer, spells, tellss, lawfuls, Met, bound, Walk, enters-by, ends, calls-said, Plain, returns-plain, Said, #plain, plain-known}
+use Rattle.node.proofs.Walking.{vals, reborrows, Param, number, table, head, bytes, buffer, spells, tellss, lawfuls, Met, bound, Walk, enters-by, ends, calls-said, Plain, returns-plain, Said}
+use Rattle.node.proofs.Known.{#plain, plain-known}
 use Rattle.node.proofs.calls.close as g
 use Rattle.node.proofs.calls.close.Symbol as call-def
 use Rattle.node.proofs.calls.close.Symbol.{name as #call}
@@ -23,7 +24,7 @@ module _ {M : Type 1} (𝓤 : URA M) (H : Heap 𝓤) (A : Atoms 𝓤) (W : Given
       let (t, (h, (time, (place, (type, (reason, (n, (out, _)))))))) = a in let y = bound 𝓤 H A W f.ended (f.clauses 𝓤 H A at-mem run) (spells params) κs qs bounds a z in
       reborrows ! refl refl refl refl (tt, tt) (tt, tt) (tt, (tt, (record { fits = are .0 .0 .1 .0 }, tt))) $ reborrows ! refl refl refl refl (tt, tt) (tt, tt) (tt, (tt, (record { fits = are .1 .1 .1 .1 .1 .1 .1 .0 .0 .1 .0 }, tt))) $ move ! (1 ∷ 2 ∷ []) $
       calls-said ! fm g.ended (g.clauses 𝓤 H A at-mem run) known-call y (id⊢ 𝓤 (emp 𝓤)) (λ u ws. Said (Close place type reason (now n)) h (now t) time (now out) u (ws .0) (ws .1 .1 .1 .1 .1 .1 .1 .0)) (λ u ws. id⊢ 𝓤 _) (vals ! 1 refl refl) (λ w u ws is e. move ! (2 ∷ []) $
-      returns-plain ! fm at-mem run known-plain u is tt refl refl tt refl refl (λ made. by ! (ends 𝓤 H A W f.ended (f.clauses 𝓤 H A at-mem run) y _ (plainly u) ws made (factI 𝓤 _ (emp 𝓤) (ap plainly (e .0), e .1)))))
+      returns-plain ! fm at-mem run known-plain u is tt refl refl tt refl refl tt (λ made. by ! (ends 𝓤 H A W f.ended (f.clauses 𝓤 H A at-mem run) y _ (plainly u) ws made (factI 𝓤 _ (emp 𝓤) (ap plainly (e .0), e .1)))))
 
 pub uj-close-spec : {M : Type 1} → stated.statement M
 unfolding code.routine tablesOf

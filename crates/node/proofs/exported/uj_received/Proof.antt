@@ -9,8 +9,9 @@ use Rattle.node.proofs.Route as RT
 use Rattle.node.proofs.Route.Laws as RT′
 use Rattle.node.specs.Calls.Call.{Received}
 use Rattle.node.specs.Plain.{plain as plainly}
-use Rattle.node.proofs.Walking.{refl, ap, List, [], _∷_, URA, w32, w64, SProp, emp, id⊢, Memory, Routine, Heap, Calls, Loops, Atoms, Fun, factI, givenOf, tables, tablesOf, FmC, fmOf, Given, _$_, !, by, move, now, cited, Triple, Args, ‵, use1, via, sem, ftrue, owns, typesAt, lasts}
-use Rattle.node.proofs.Walking.{vals, reborrows, Param, number, table, head, route, idleTime, bytes, buffer, spells, tellss, lawfuls, Met, bound, Walk, enters-by, ends, calls-said, Plain, returns-plain, Said, #plain, plain-known, values, ownsEach, lastsEach, exchange, exchanged, inRow, lands-struct, made-struct, NameRoute, names-route, #route, route-known, NameIdle, names-idle, #idle, idle-known}
+use Rattle.node.proofs.Walking.{refl, ap, List, [], _∷_, URA, w32, w64, SProp, emp, id⊢, Memory, Routine, Heap, Calls, Loops, Atoms, Fun, factI, givenOf, tables, tablesOf, FmC, fmOf, Given, _$_, !, by, move, now, cited, Triple, Args, ‵, use1, via, ftrue, owns, typesAt, lasts}
+use Rattle.node.proofs.Walking.{vals, reborrows, Param, number, table, head, route, idleTime, bytes, buffer, spells, tellss, lawfuls, Met, bound, Walk, enters-by, ends, calls-said, Plain, returns-plain, Said, values, ownsEach, lastsEach, exchange, exchanged, inRow, lands-struct, made-struct, NameRoute, names-route, NameIdle, names-idle}
+use Rattle.node.proofs.Known.{#route, route-known, #idle, idle-known, #plain, plain-known}
 use Rattle.node.proofs.calls.received as g
 use Rattle.node.proofs.calls.received.Symbol as call-def
 use Rattle.node.proofs.calls.received.Symbol.{name as #call}
@@ -39,7 +40,7 @@ module _ {M : Type 1} (𝓤 : URA M) (H : Heap 𝓤) (A : Atoms 𝓤) (W : Given
       use1 W (‵ (inRow (exchange 7 2 (ID.the-row .own i (LL.vals ID.the-type ID′.the-laws i)) (ownsEach (typesAt (f.signature .params) κs) a (values 𝓤 H A W f.ended (f.clauses 𝓤 H A at-mem run) (spells params) κs a))))) (exchanged 𝓤 H A 7 2 (ID.the-row .own i (LL.vals ID.the-type ID′.the-laws i)) (ownsEach (typesAt (f.signature .params) κs) a (values 𝓤 H A W f.ended (f.clauses 𝓤 H A at-mem run) (spells params) κs a)) (made-struct 𝓤 H A ID.the-type ID′.the-laws ID′.the-plain i isᵢ)) $
       use1 W (‵ (owns (typesAt (g.signature .params) κs) a′ (y′ .0 .4))) (exchanged 𝓤 H A 3 3 (RT.the-row .own m (LL.vals RT.the-type RT′.the-laws m)) (exchange 7 2 (ID.the-row .own i (LL.vals ID.the-type ID′.the-laws i)) (ownsEach (typesAt (f.signature .params) κs) a (values 𝓤 H A W f.ended (f.clauses 𝓤 H A at-mem run) (spells params) κs a))) (made-struct 𝓤 H A RT.the-type RT′.the-laws RT′.the-plain m isₘ)) $ move ! (2 ∷ 0 ∷ []) $
       calls-said ! fm g.ended (g.clauses 𝓤 H A at-mem run) known-call y′ (id⊢ 𝓤 (emp 𝓤)) (λ u ws. Said (Received m random i (now m′) (now n)) h (now t) time (now out) u (ws .0) (ws .1 .1 .1 .1 .1 .1 .1 .1 .0)) (λ u ws. id⊢ 𝓤 _) (vals ! 1 refl refl) (λ w u ws is e. move ! (2 ∷ []) $
-      returns-plain ! fm at-mem run known-plain u is tt refl refl tt refl refl (λ made.
+      returns-plain ! fm at-mem run known-plain u is tt refl refl tt refl refl tt (λ made.
       use1 W (‵ (lasts f.ended κs a (ws .0, (tt, (tt, (tt, ws .1)))))) (via 𝓤 _ (exchanged 𝓤 H A 1 0 ftrue (lastsEach κs (g.signature .params) (g.ended .kept) a′ ws) (id⊢ 𝓤 (emp 𝓤))) (via 𝓤 _ (exchanged 𝓤 H A 1 0 ftrue (exchange 1 0 ftrue (lastsEach κs (g.signature .params) (g.ended .kept) a′ ws)) (id⊢ 𝓤 (emp 𝓤))) (exchanged 𝓤 H A 1 0 ftrue (exchange 1 0 ftrue (exchange 1 0 ftrue (lastsEach κs (g.signature .params) (g.ended .kept) a′ ws))) (id⊢ 𝓤 (emp 𝓤))))) $ by ! (ends 𝓤 H A W f.ended (f.clauses 𝓤 H A at-mem run) y _ (plainly u) (ws .0, (tt, (tt, (tt, ws .1)))) made (factI 𝓤 _ (emp 𝓤) (ap plainly (e .0), e .1)))))))
 
 pub uj-received-spec : {M : Type 1} → stated.statement M
