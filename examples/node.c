@@ -90,20 +90,25 @@ uint32_t node_send(node *n, uint64_t time, size_t place, uint32_t command, const
 }
 
 /* The caller's duty. The link closes with 06h at each incorrect telegram and keeps no time of it; SUBSET-057 wants the second within a period to end
- * the connection for good (5.2.5.8.4). An open and a final close do that here, and their two telegrams do it at the partner. */
-static void count_incorrect(node *n, uint64_t time, size_t place)
+ * the connection for good (5.2.5.8.4). An open and a final close do that here, and their two telegrams do it at the partner. The answer is UJ_DONE where
+ * it is not the second. */
+static uint32_t count_incorrect(node *n, uint64_t time, size_t place)
 {
     const uint64_t period = n->table[place].level == 4 ? PERIOD_AT_4 : PERIOD_AT_2;
     const int second = n->incorrect[place] && time - n->incorrect_at[place] <= period;
+    uint32_t answer = UJ_DONE;
 
     n->incorrect[place] = 1;
     n->incorrect_at[place] = time;
     if (!second)
-        return;
-    /* Only a record that is not closed can be closed; the layer above may have opened it again already. */
+        return UJ_DONE;
+    /* Only a record that is not closed can be closed; the layer above may have opened it again already. It may also have made a call with a later time
+     * meanwhile; the latest time is never refused. */
     if (n->table[place].phase == UJ_CLOSED)
-        node_open(n, time, place);
-    node_close(n, time, place, UJ_FINAL, UJ_REASON_INCORRECT_2ND, "");
+        answer = node_open(n, n->head.latest, place);
+    if (answer != UJ_DONE)
+        return answer;
+    return node_close(n, n->head.latest, place, UJ_FINAL, UJ_REASON_INCORRECT_2ND, "");
 }
 
 uint32_t node_received(node *n, uint64_t time, frame f)
@@ -116,17 +121,24 @@ uint32_t node_received(node *n, uint64_t time, frame f)
 
     /* Closed with 06h by ourselves: we wrote the disconnect. Where the partner's closed the connection, the incorrect telegram was ours to it. */
     if (o.answer.telegram == UJ_TELEGRAM_DISCONNECT && o.happened.reason == UJ_REASON_INCORRECT_1ST)
-        count_incorrect(n, time, node_place(n, back));
+        return count_incorrect(n, time, node_place(n, back));
     return answer;
 }
 
-void node_tick(node *n, uint64_t time)
+uint32_t node_tick(node *n, uint64_t time)
 {
+    uint32_t first_refusal = UJ_DONE;
+
     /* Every record, since each has its own waits and its own watch, and one call writes one telegram at most. */
     for (size_t place = 0; place < n->count; place++) {
+        uint32_t answer;
+
         /* Of a finally closed one the answer is known: UJ_ENDED. */
         if (n->table[place].phase == UJ_FINALLY_CLOSED)
             continue;
-        finish(n, route_of(n, place), "tick", uj_tick(n->table, n->count, n->head, time, place, n->out, sizeof n->out), NULL);
+        answer = finish(n, route_of(n, place), "tick", uj_tick(n->table, n->count, n->head, time, place, n->out, sizeof n->out), NULL);
+        if (first_refusal == UJ_DONE)
+            first_refusal = answer;
     }
+    return first_refusal;
 }

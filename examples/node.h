@@ -48,12 +48,14 @@ size_t node_add(node *n, uint32_t partner, uint32_t partner_sap, uint32_t local_
 /* The place of the record on a route; one past the table where there is none. */
 size_t node_place(const node *n, route r);
 
-/* The five calls. Each gives back its answer: UJ_DONE, or why it was refused. `new_setup` is UJ_FINAL or UJ_NEW_SETUP. */
+/* The five calls. Each gives back its answer: UJ_DONE, or why it was refused; look at it. `new_setup` is UJ_FINAL or UJ_NEW_SETUP. At the second
+ * incorrect telegram node_received makes the final closing too, and the answer is that one's. node_tick ticks every record, and answers for the first
+ * that was refused. */
 uint32_t node_open(node *n, uint64_t time, size_t place);
 uint32_t node_close(node *n, uint64_t time, size_t place, uint32_t new_setup, uint32_t reason, const char *text);
 uint32_t node_send(node *n, uint64_t time, size_t place, uint32_t command, const uint8_t *net, size_t length);
 uint32_t node_received(node *n, uint64_t time, frame f);
-void node_tick(node *n, uint64_t time);
+uint32_t node_tick(node *n, uint64_t time);
 
 /* A new random number for each call, from a generator that doesn't begin alike at every start of the card. */
 uint32_t board_random(const node *n);
@@ -62,8 +64,8 @@ uint32_t board_random(const node *n);
 void board_send(const node *n, route r, const uint8_t *telegram, size_t length);
 
 /* Tells the layer above. With UJ_EVENT_DATA, `net` are the `h.count` bytes of net data, inside the telegram received: use or copy them before it
- * returns. */
-void board_happened(const node *n, route r, uj_happened h, const uint8_t *net);
+ * returns. It may make a call in turn. */
+void board_happened(node *n, route r, uj_happened h, const uint8_t *net);
 
 /* For whoever looks on: the call's name and its whole outcome, whatever it was. */
 void board_watched(const node *n, route r, const char *call, uj_outcome o);

@@ -55,7 +55,7 @@ void trace_telegram(uint64_t time, const char *from, const char *to, route r, ui
     printf("\n");
 }
 
-/* The reasons of 5.2.5.9. */
+/* The reasons of 5.2.5.9. A partner's may be any byte. */
 static const char *reason_name(uint32_t reason)
 {
     static const char *const names[] = {
@@ -63,7 +63,11 @@ static const char *reason_name(uint32_t reason)
         "connection set-up for existing connection", "idle cycle time-out", "1st incorrect receive",          "2nd incorrect receive",
     };
 
-    return reason < sizeof names / sizeof *names ? names[reason] : "a reason of the layer above";
+    if (reason < sizeof names / sizeof *names)
+        return names[reason];
+    if (reason == UJ_REASON_OTHER)
+        return "other reason of the Safe Link Layer";
+    return 0x20 <= reason && reason <= 0x40 ? "a reason of the layer above" : "a reason that is not used";
 }
 
 /* Why a call was refused, as include/ujamniq.h says it. */
@@ -90,12 +94,14 @@ static const char *why_closed(uj_outcome o)
     if (o.answer.telegram == UJ_TELEGRAM_NONE)
         return "the partner's disconnect says so";
     switch (o.happened.reason) {
-    case UJ_REASON_APPLICATION:
-        return "the application wants it";
+    case UJ_REASON_VERSION:
+        return "the confirm has another version than 3.0";
     case UJ_REASON_SET_UP:
         return "no confirm came within 5000 ms";
     case UJ_REASON_AUTHENTICATION:
         return "the authentication is wrong or late";
+    case UJ_REASON_EXISTING:
+        return "the telegram is not for this phase";
     case UJ_REASON_IDLE:
         return "the partner is silent for longer than it declared";
     case UJ_REASON_INCORRECT_1ST:
@@ -103,7 +109,8 @@ static const char *why_closed(uj_outcome o)
     case UJ_REASON_INCORRECT_2ND:
         return "the firmware has counted two incorrect telegrams within the period";
     default:
-        return "the telegram is not for this phase";
+        /* 00h, 1Fh and 20h..40h: the link itself gives none of them. */
+        return "the application wants it";
     }
 }
 

@@ -135,7 +135,7 @@ void board_send(const node *n, route r, const uint8_t *telegram, size_t length)
 }
 
 /* The layer above. The data of this example say whose they are. */
-void board_happened(const node *n, route r, uj_happened h, const uint8_t *net)
+void board_happened(node *n, route r, uj_happened h, const uint8_t *net)
 {
     const char *name = partner_name(r.partner);
 
@@ -170,6 +170,7 @@ static void arrive(void)
     sent s = frames[0];
     board *to = board_at(s.receiver);
     const frame f = {s.sender, s.route.partner_sap, s.route.local_sap, s.telegram, s.length};
+    uint32_t answer = UJ_DONE;
 
     memmove(frames, frames + 1, --frame_count * sizeof *frames);
     trace_telegram(s.time, name_on_bus(s.from), to ? name_on_bus(to) : "nobody", s.route, s.number, s.telegram, s.length);
@@ -177,7 +178,8 @@ static void arrive(void)
         damage(&s);
     damage_next = 0;
     if (to)
-        node_received(&to->node, now, f);
+        answer = node_received(&to->node, now, f);
+    must(answer == UJ_DONE || answer == UJ_ENDED, "a telegram is refused");
 }
 
 /* Lets time pass, millisecond by millisecond: frames arrive, and every board ticks. */
@@ -189,7 +191,7 @@ static void pass(uint64_t milliseconds)
             arrive();
         for (size_t i = 0; i < BOARDS && now % TICK_TIME == 0; i++)
             if (boards[i].fitted)
-                node_tick(&boards[i].node, now);
+                must(node_tick(&boards[i].node, now) == UJ_DONE, "a tick is refused");
     }
 }
 

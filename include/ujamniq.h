@@ -38,6 +38,9 @@
 extern "C" {
 #endif
 
+/* The version of this library. */
+#define UJ_VERSION "0.1.0"
+
 /* The longest telegram, check word included. Every output buffer needs this much room, however short the telegram. */
 #define UJ_LONGEST 244
 
@@ -158,11 +161,16 @@ uint32_t uj_word32(const uint8_t *first, size_t first_length, const uint8_t *sec
  *   06h           a telegram that fails the check, in every phase but the closed ones
  * Where uj_received tells UJ_EVENT_CLOSED and wrote no telegram, the partner's disconnect has closed the connection, and the reason is the partner's.
  *
+ * An error upon transmission is seen by your bus driver alone. Where it reports one of a set-up telegram, close by yourself: 02h with UJ_NEW_SETUP for
+ * a request or confirm (5.2.5.7.2), 03h with UJ_FINAL for an authentication or acknowledgement (5.2.5.8.3).
+ *
  * Your duty, the second incorrect telegram: SUBSET-057 wants a connection to end for good when a second telegram fails the check within 25 s at level
  * 4, within 64 s at level 2 (5.2.5.8.4, 11.3.5.1.2, 11.4.5.1.2). A record has no place for the time of the first, so the link closes with 06h each
  * time, and the connection may open again. Count, for each connection, the times when uj_received closes with 06h by itself. At the second within the
  * period end it: uj_open, then uj_close with UJ_FINAL and UJ_REASON_INCORRECT_2ND, both telegrams sent in that order, so that the partner ends it
  * too. `node_received` of examples/node.c does this.
+ * A closed record drops an incorrect telegram and tells no event, though 5.5.1.5 counts it too (column Idle, f_13): to count it, put each telegram for a
+ * closed record to uj_check as well, with 0 expected. A late telegram of the connection before fails there too.
  */
 
 /* Phases of a record. A record of zeros is in none of them. */
@@ -246,7 +254,8 @@ typedef struct uj_outcome {
 /* The head of a node that has seen no time yet. */
 uj_head uj_new_head(uint32_t own);
 
-/* A closed record that has never been used. Both constructors take any numbers; the calls refuse what is out of range. */
+/* A closed record that has never been used. Both constructors take any numbers; the calls refuse what is out of range. Only a restart of the node may
+ * make a finally closed record anew (5.2.5.5.1): never put a uj_fresh over one. */
 uj_record uj_fresh(uint32_t partner, uint32_t partner_sap, uint32_t local_sap, uint32_t level);
 
 /* In the calls: `table` of `count` records; `place` is a record's number in it, from 0 on. `out` needs room for UJ_LONGEST bytes in every call, also
