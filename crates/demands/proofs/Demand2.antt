@@ -54,7 +54,7 @@ use Rattle.node.specs.Calls.{Call, Left, placeOf, stepOf, stepOut, called}
 use Rattle.node.specs.Calls.Call.{Open, Close, Send, Received, Tick}
 use Rattle.node.proofs.Facts.{by-route, net-data-handed-on, others-unchanged, partners-stay, stays-accepted}
 use Rattle.demands.specs.Pairs.{Mirror, Open-to, telegramOf, routeFrom, Done, Nodes, Towards, Watching, Moment, sent as given, got, In-time, Arrives, Nothing-wrong}
-use Rattle.demands.specs.Demand2.{Comes-up, Goes-on, Sent-comes-up, Due, Idle-is-taken, Is-closed, Closed-with, Close-closes, Silence-closes, Incorrect-closes, textOf, Disconnect-closes, Nothing-refused, Demand-2-one-step}
+use Rattle.demands.specs.Demand2.{Comes-up, Goes-on, Sent-comes-up, Due, Idle-is-taken, Is-closed, Closed-with, Close-closes, Silence-closes, Incorrect-closes, textOf, Disconnect-closes, Nothing-refused, Isolation, Demand-2-one-step}
 use Rattle.demands.proofs.Carried.{Carried, carried, stepIn, done-by}
 use Rattle.demands.proofs.Steps.{Writes, writes, taken-in, judged-open}
 
@@ -653,6 +653,9 @@ nothing-refused =
           (done, taken-done n i j (Close i type reason text) m kind.Disconnect (s .type ∷ reason ∷ []) (s .text) link ok (is-taken₅ n i j (Close i type reason text) m refl reason (eqb type 0) g s));
     }
 
+pub isolation : Isolation
+isolation = record { others-unchanged = others-unchanged; partners-stay = partners-stay; stays-accepted = stays-accepted }
+
 pub demand-2-one-step : Demand-2-one-step
 demand-2-one-step =
     record {
@@ -663,5 +666,5 @@ demand-2-one-step =
       incorrect-closes = incorrect-closes;
       disconnect-closes = disconnect-closes;
       nothing-refused = nothing-refused;
-      isolation = record { others-unchanged = others-unchanged; partners-stay = partners-stay; stays-accepted = stays-accepted };
+      isolation = isolation;
     }

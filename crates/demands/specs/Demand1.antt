@@ -3,7 +3,7 @@
 -- part of what it means to be proved.
 -- Assumes nothing.
 use mathlib.Core.Path.{_≡_, refl}
-use mathlib.Core.Bool.{true, false}
+use mathlib.Core.Bool.{true}
 use mathlib.Core.List.{List, [], _∷_}
 use Prim.Native.Nat.{ℕ}
 use lib.ListN.{replicate}
@@ -19,9 +19,9 @@ use Rattle.link.specs.declared.Record.{Record}
 use Rattle.link.specs.declared.IdleTime.{IdleTime}
 use Rattle.node.specs.Accepted.{accepted, boundsAccepted, recordAccepted}
 use Rattle.node.specs.Calls.{Call, asked, refusedOutcome, called}
-use Rattle.node.specs.Calls.Call.{Send, Received}
+use Rattle.node.specs.Calls.Call.{Send}
 use Rattle.node.specs.Facts.{First-answered, Refused-changes-nothing}
-use Rattle.demands.specs.Examples.{exampleRecord}
+use Rattle.demands.specs.Examples.{exampleOpen, exampleReceipt}
 
 -- A step of one connection that is refused leaves record and buffer as they were.
 pub record Refused-steps-change-nothing : Type 0 where
@@ -52,10 +52,7 @@ pub record Demand-1 : Type 0 where
 abbrev pub exampleAnswer : Call → ℕ → Record → ℕ → ℕ → ℕ
 exampleAnswer c own r time room = called c (record { own = own; latest = 1000 }) (r ∷ []) time (replicate room 0) .outcome .answer .number
 
--- Three records: open, closed, finally closed.
-abbrev pub exampleOpen : Record
-exampleOpen = exampleRecord 4 9 0x01234569 0x89ABCDF1 1000
-
+-- Beside the open record a closed and a finally closed one.
 abbrev pub exampleClosed : Record
 exampleClosed = freshOf 9 3 3 4
 
@@ -76,9 +73,6 @@ unfolding called asked refusedOutcome accepted boundsAccepted recordAccepted rec
 example-order = (refl, refl, refl, refl, refl, refl, refl)
 
 -- A telegram of five bytes from an unknown sender is refused with 6, and at an earlier time with 7.
-abbrev pub exampleShort : Call
-exampleShort = Received (record { sender = 10; «destination_sap» = 3; «source_sap» = 3 }) 0 (record { named = false; time = 0 }) (replicate 5 0) []
-
-pub example-short : (exampleAnswer exampleShort 8 exampleOpen 1000 244 ≡ 6) × (exampleAnswer exampleShort 8 exampleOpen 999 244 ≡ 7)
+pub example-short : (exampleAnswer (exampleReceipt 10 (replicate 5 0)) 8 exampleOpen 1000 244 ≡ 6) × (exampleAnswer (exampleReceipt 10 (replicate 5 0)) 8 exampleOpen 999 244 ≡ 7)
 unfolding called asked refusedOutcome accepted boundsAccepted recordAccepted recordInRange endOf inRange isPhase isClosed goodIdle pick
 example-short = (refl, refl)

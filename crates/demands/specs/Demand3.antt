@@ -43,7 +43,7 @@ use Rattle.node.specs.Calls.{Left, called, asked, settled}
 use Rattle.node.specs.Calls.Call.{Received}
 use Rattle.demands.specs.Pairs.{Done, In-time}
 use Rattle.demands.specs.Demand2.{Is-closed}
-use Rattle.demands.specs.Examples.{exampleRecord}
+use Rattle.demands.specs.Examples.{exampleRecord, exampleReceipt}
 
 -- Two different records of an accepted table.
 pub record Two (h : Head) (t : List Record) (i j : ℕ) : Type 0 where
@@ -194,12 +194,12 @@ example-within = record { start = 2; one-length = refl; before = before; after =
     after (suc (suc (suc k))) p = refl
 
 -- With both connections open, each at the number 01234569h: the telegram of node 8 arrives as if from node 9, and is not refused ..
-abbrev pub exampleOpen : List Record
-exampleOpen = exampleRecord 4 8 0x89ABCDF1 0x01234569 1000 ∷ exampleRecord 4 9 0x89ABCDF1 0x01234569 1000 ∷ []
+abbrev pub exampleBothOpen : List Record
+exampleBothOpen = exampleRecord 4 8 0x89ABCDF1 0x01234569 1000 ∷ exampleRecord 4 9 0x89ABCDF1 0x01234569 1000 ∷ []
 
 abbrev pub exampleExchanged : Left
 exampleExchanged =
-    called (Received (record { sender = 9; «destination_sap» = 3; «source_sap» = 3 }) 0 (record { named = false; time = 0 }) exampleTelegram4 []) (record { own = 1; latest = 1000 }) exampleOpen 1300
+    called (exampleReceipt 9 exampleTelegram4) (record { own = 1; latest = 1000 }) exampleBothOpen 1300
     (replicate 244 0)
 
 -- .. the connection to node 9 is closed with 06h, and the one to node 8 stays open.

@@ -51,6 +51,14 @@ exampleRecord level partner number expects taken =
       «taken_at» = taken;
     }
 
+-- Node 8's at level 4, which last took a telegram at 1000.
+abbrev pub exampleOpen : Record
+exampleOpen = exampleRecord 4 9 0x01234569 0x89ABCDF1 1000
+
+-- The receipt of a telegram from this sender, with neither an idle time named nor net data for a possible confirm.
+abbrev pub exampleReceipt : ℕ → List ℕ → Call
+exampleReceipt sender telegram = Received (record { sender = sender; «destination_sap» = 3; «source_sap» = 3 }) 0 (record { named = false; time = 0 }) telegram []
+
 -- The two nodes: node 8 sends 01234569h next and expects 89ABCDF1h, and node 9 the other way round. Node 9 last took a telegram at this time.
 abbrev pub exampleNodesAt : ℕ → ℕ → Nodes
 exampleNodesAt taken′ level =
@@ -128,7 +136,7 @@ pub record Examples (level : ℕ) : Type 0 where
   pub idle-due : Example (exampleNodes level) (Tick 0) 1300 6
   pub closing : Example (exampleNodes level) (Close 0 0 0x20 (1 ∷ 2 ∷ [])) 1300 5
   pub incorrect : Example (exampleNodes level)
-      (Received (record { sender = 9; «destination_sap» = 3; «source_sap» = 3 }) 0 (record { named = false; time = 0 }) (replicate 10 0) []) 1300 5
+      (exampleReceipt 9 (replicate 10 0)) 1300 5
   pub silence : Example (exampleNodesAt 1400 level) (Tick 0) 1501 5
 
 -- All of this at level 4, and at level 2.
@@ -153,7 +161,7 @@ examples = (
 
 -- Node 8 with a second connection, to node 10: what it sends for the first leaves the second as it was.
 abbrev pub exampleTwo : List Record
-exampleTwo = exampleRecord 4 9 0x01234569 0x89ABCDF1 1000 ∷ exampleRecord 4 10 0x01234569 0x89ABCDF1 1000 ∷ []
+exampleTwo = exampleOpen ∷ exampleRecord 4 10 0x01234569 0x89ABCDF1 1000 ∷ []
 
 pub example-isolated :
     (called (Send 0 0x09 (1 ∷ 2 ∷ [])) (exampleNodes 4 .head) exampleTwo 1300 (replicate 244 0) .outcome .answer .number ≡ 0)

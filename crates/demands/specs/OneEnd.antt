@@ -1,4 +1,5 @@
--- Demand 2, at one end, whatever its partner does: what closes a connection and with which reason, and what alone opens one.
+-- Demand 2, at one end, whatever its partner does: what closes a connection and with which reason, what alone opens one, and
+-- what alone hands up data.
 -- Assumes nothing.
 use mathlib.Core.Path.{_≡_, refl}
 use mathlib.Core.Bool.{true, false}
@@ -18,12 +19,13 @@ use Rattle.telegram.specs.Telegrams.{authenticationNumber, request, disconnect,
 use Rattle.telegram.specs.Writers.{refusal, connectAllowed, writesRequest, disconnectAllowed, writesDisconnect}
 use Rattle.telegram.specs.Check.{commandOf, checkOf, wordAgrees}
 use Rattle.telegram.specs.declared.Kind.{Kind}
-use Rattle.telegram.specs.declared.Kind.the-variants.{Request, Confirm, Authentication, Acknowledgement}
+use Rattle.telegram.specs.declared.Kind.the-variants.{Request, Confirm, Authentication, Acknowledgement, Data}
 use Rattle.telegram.specs.declared.Check.the-variants.{Passes}
 use Rattle.link.specs.Records.{endOf, recordInRange, isPhase, isClosed, atRest, freshOf, become, closedBy}
 use Rattle.link.specs.Times.{watchOver, waitOver}
 use Rattle.link.specs.Judged.{back, judged, passed, expectedNow, runOut, runOutVerdict, ticked}
 use Rattle.link.specs.Steps.{firstRefusal, writingStep, declaredBy, openRefusal, openOf, openOut, receivedRefusal, receivedOf, receivedOut, tickRefusal, tickOf, tickOut}
+use Rattle.link.specs.Plain.{happened}
 use Rattle.link.specs.declared.Record.{Record}
 use Rattle.link.specs.declared.IdleTime.{IdleTime}
 use Rattle.link.specs.declared.Event.the-variants.{Opened}
@@ -35,21 +37,22 @@ use Rattle.node.specs.Calls.{Call, Left, called, asked, settled}
 use Rattle.node.specs.Calls.Call.{Open, Close, Send, Received, Tick}
 use Rattle.demands.specs.Pairs.{telegramOf, Done, In-time}
 use Rattle.demands.specs.Demand2.{Is-closed}
-use Rattle.demands.specs.Examples.{exampleRecord}
+use Rattle.demands.specs.Examples.{exampleOpen, exampleReceipt}
 
 -- A call that looks at the timers of the record at place i: a tick of it, or any telegram for it.
 pub data Looks-at (c : Call) (t : List Record) (i : ℕ) : Type 0 where
   tick : c ≡ Tick i → Looks-at c t i
   receipt : (w : Route) (random : ℕ) (idle-time : IdleTime) (telegram net : List ℕ) → c ≡ Received w random idle-time telegram net → firstMatch w t ≡ i → Looks-at c t i
 
--- More than the watched time after the last telegram was taken, such a call closes an open connection with 05h, not finally.
+-- More than the watched time after the last telegram was taken, such a call closes an open connection with 05h, not finally (5.2.5.7.4,
+-- 5.2.6.3, 5.2.6.4).
 abbrev pub Silence-closes-here : Type 0
 Silence-closes-here =
     (c : Call) (h : Head) (t : List Record) (i time : ℕ) (d : List ℕ) → Looks-at c t i → recordAt t i .phase ≡ 5 → (recordAt t i .watched ≡ 0 → ⊥)
     → recordAt t i .«taken_at» + recordAt t i .watched < time → Done (called c h t time d) → Is-closed (called c h t time d) i 0x05 false
 
--- More than 5,000 after the last sending, it closes one that awaits its partner's answer: a confirm (2) with 02h and not finally; an authentication (3) or an
--- acknowledgement (4) with 03h and finally.
+-- More than 5,000 after the last sending, it closes one that awaits its partner's answer: a confirm (2) with 02h and not finally (5.2.5.7.2); an
+-- authentication (3) or an acknowledgement (4) with 03h and finally (5.2.5.8.3).
 pub record Late-answer-closes : Type 0 where
   pub confirm : (c : Call) (h : Head) (t : List Record) (i time : ℕ) (d : List ℕ) → Looks-at c t i → recordAt t i .phase ≡ 2 → recordAt t i .«sent_at» + 5000 < time
       → Done (called c h t time d) → Is-closed (called c h t time d) i 0x02 false
@@ -64,7 +67,7 @@ pub record For-an-open (w : Route) (t : List Record) (i time : ℕ) : Type 0 whe
   pub open-here : recordAt t i .phase ≡ 5
   pub in-time : In-time (recordAt t i) time
 
--- One that doesn't pass the check closes it with 06h, not finally.
+-- One that doesn't pass the check closes it with 06h, not finally (5.2.5.7.3).
 abbrev pub Incorrect-closes-here : Type 0
 Incorrect-closes-here =
     (w : Route) (random : ℕ) (idle-time : IdleTime) (telegram net : List ℕ) (h : Head) (t : List Record) (i time : ℕ) (d : List ℕ) → For-an-open w t i time
@@ -75,7 +78,7 @@ Incorrect-closes-here =
 abbrev pub Sets-up-anew : Kind → Type 0
 Sets-up-anew k = (k ≡ Request) ⊎ ((k ≡ Confirm) ⊎ ((k ≡ Authentication) ⊎ (k ≡ Acknowledgement)))
 
--- Such a one that passes it closes with 04h, not finally.
+-- Such a one that passes it closes with 04h, not finally (5.2.5.7.5).
 abbrev pub Set-up-closes-here : Type 0
 Set-up-closes-here =
     (w : Route) (random : ℕ) (idle-time : IdleTime) (telegram net : List ℕ) (h : Head) (t : List Record) (i time : ℕ) (d : List ℕ) → For-an-open w t i time
@@ -104,6 +107,24 @@ By-an-answer (Tick place) h t time = ⊥
 abbrev pub Opens-only-by-an-answer : Type 0
 Opens-only-by-an-answer = (c : Call) (h : Head) (t : List Record) (time : ℕ) (d : List ℕ) → called c h t time d .outcome .event ≡ Opened → By-an-answer c h t time
 
+-- A data telegram for an open connection that comes in time and passes the check at the number expected.
+pub record Good-data (w : Route) (h : Head) (t : List Record) (time : ℕ) (telegram : List ℕ) : Type 0 where
+  pub for : For-an-open w t (firstMatch w t) time
+  pub passes : checkOf (endOf (recordAt t (firstMatch w t)) (h .own)) (recordAt t (firstMatch w t) .expected) telegram ≡ Passes
+  pub kind : kindOfCommand (commandOf telegram) ≡ Data
+
+-- No call but received hands up data (2), and it does so only from such a one; which net bytes these are, `Net-data-handed-on` says.
+abbrev pub From-a-good-telegram : Call → Head → List Record → ℕ → Type 0
+From-a-good-telegram (Received w random idle-time telegram net) h t time = Good-data w h t time telegram
+From-a-good-telegram (Open place random idle-time net) h t time = ⊥
+From-a-good-telegram (Close place type reason text) h t time = ⊥
+From-a-good-telegram (Send place low net) h t time = ⊥
+From-a-good-telegram (Tick place) h t time = ⊥
+
+abbrev pub Data-only-from-a-good-telegram : Type 0
+Data-only-from-a-good-telegram =
+    (c : Call) (h : Head) (t : List Record) (time : ℕ) (d : List ℕ) → happened (called c h t time d .outcome .event) .event ≡ 2 → From-a-good-telegram c h t time
+
 -- All of it.
 pub record Demand-2-one-end : Type 0 where
   pub silence-closes-here : Silence-closes-here
@@ -111,19 +132,13 @@ pub record Demand-2-one-end : Type 0 where
   pub incorrect-closes-here : Incorrect-closes-here
   pub set-up-closes-here : Set-up-closes-here
   pub opens-only-by-an-answer : Opens-only-by-an-answer
+  pub data-only-from-a-good-telegram : Data-only-from-a-good-telegram
 
 -- Worked example: node 8, with one connection at level 4, to node 9, makes a call at this time.
 abbrev pub exampleCalled : Call → Record → ℕ → Left
 exampleCalled c r time = called c (record { own = 8; latest = 1000 }) (r ∷ []) time (replicate 244 0)
 
--- The receipt of a telegram from node 9.
-abbrev pub exampleReceipt : List ℕ → Call
-exampleReceipt telegram = Received (record { sender = 9; «destination_sap» = 3; «source_sap» = 3 }) 0 (record { named = false; time = 0 }) telegram []
-
--- Its record where it is open, as in Demand2's; and where it awaits an answer in this phase, to what it sent at time 1000.
-abbrev pub exampleOpen : Record
-exampleOpen = exampleRecord 4 9 0x01234569 0x89ABCDF1 1000
-
+-- Its record where it awaits an answer in this phase, to what it sent at time 1000.
 abbrev pub exampleWaiting : ℕ → Record
 exampleWaiting phase = become (freshOf 9 3 3 4) phase 0x01234569 0 500 0 1000 0
 
@@ -135,11 +150,11 @@ exampleRequest =
 -- At 1501, one after the watch, a tick and any telegram close with 05h; at 6001, one after the wait, a tick closes; and at 1350 the request closes with 04h.
 pub record Examples : Type 0 where
   pub silence-on-tick : Is-closed (exampleCalled (Tick 0) exampleOpen 1501) 0 0x05 false
-  pub silence-on-receipt : Is-closed (exampleCalled (exampleReceipt (replicate 10 0)) exampleOpen 1501) 0 0x05 false
+  pub silence-on-receipt : Is-closed (exampleCalled (exampleReceipt 9 (replicate 10 0)) exampleOpen 1501) 0 0x05 false
   pub no-confirm : Is-closed (exampleCalled (Tick 0) (exampleWaiting 2) 6001) 0 0x02 false
   pub no-authentication : Is-closed (exampleCalled (Tick 0) (exampleWaiting 3) 6001) 0 0x03 true
   pub no-acknowledgement : Is-closed (exampleCalled (Tick 0) (exampleWaiting 4) 6001) 0 0x03 true
-  pub set-up-anew : Is-closed (exampleCalled (exampleReceipt exampleRequest) exampleOpen 1350) 0 0x04 false
+  pub set-up-anew : Is-closed (exampleCalled (exampleReceipt 9 exampleRequest) exampleOpen 1350) 0 0x04 false
 
 pub examples : Examples
 unfolding called asked settled accepted boundsAccepted recordAccepted recordInRange endOf inRange isPhase isClosed goodIdle atRest freshOf become closedBy firstRefusal writingStep refusal openRefusal openOf openOut connectAllowed writesRequest request tickRefusal tickOf tickOut ticked runOut runOutVerdict watchOver waitOver receivedRefusal receivedOf receivedOut declaredBy judged passed expectedNow checkOf wordAgrees levelOf disconnectAllowed goodType listedReason goodDualBus writesDisconnect disconnect sealed body checkWord implicit topBits width wordLength generator generator48 generator32 shift feed kindOf isData pick
