@@ -1,7 +1,7 @@
 -- Two results that meet a promise are equal: a promise says what each part equals, and two things that equal a third are equal.
 -- Assumes nothing.
 use mathlib.Core.Path.{_≡_, sym, _∙_}
-use Rattle.demands.specs.Unique.{Checkword, Telegram, Link, Firmware, Node, Uniqueness}
+use Rattle.demands.specs.Unique.{Checkword, Telegram, Link, Firmware, Node, Clock, Uniqueness}
 
 -- A promise that is one equation, two, three.
 unique : {A : Type 0} {x : A} (r s : A) → r ≡ x → s ≡ x → r ≡ s
@@ -109,5 +109,20 @@ node =
       «uj_tick» = λ table head time place out. unique₃;
     }
 
+clock : Clock
+clock =
+    record {
+      «new_clock» = λ none. unique;
+      «read_message» = λ bytes. unique;
+      heard = λ c message local. unique;
+      factor = λ c local. unique;
+      «reference_time» = λ c local. unique;
+      «uj_clock_new» = λ none. unique;
+      «uj_clock_read» = λ bytes. unique;
+      «uj_clock_message» = λ clock message local. unique₂;
+      «uj_clock_factor» = λ clock local. unique;
+      «uj_clock_reference_time» = λ clock local. unique;
+    }
+
 pub uniqueness : Uniqueness
-uniqueness = record { checkword = checkword; telegram = telegram; link = link; firmware = firmware; node = node }
+uniqueness = record { checkword = checkword; telegram = telegram; link = link; firmware = firmware; node = node; clock = clock }

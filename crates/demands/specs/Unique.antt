@@ -45,6 +45,21 @@ use Rattle.node.specs.declared.Head.{Head}
 use Rattle.node.specs.declared.Route.{Route}
 use Rattle.node.specs.declared.Outcome.{Outcome}
 use Rattle.node.specs.declared.PlainOutcome.{PlainOutcome}
+use Rattle.clock.specs.Clocks.{newClock}
+use Rattle.clock.specs.Updates.{heardBy}
+use Rattle.clock.specs.Asking.{factorAt, timeAt}
+use Rattle.clock.specs.Reading.{readBy}
+use Rattle.clock.specs.Plain.{plainReading, plainFactor, plainTime}
+use Rattle.clock.specs.declared.Clock as estimator
+use Rattle.clock.specs.declared.Step as step
+use Rattle.clock.specs.declared.Message.{Message}
+use Rattle.clock.specs.declared.LocalTime.{LocalTime}
+use Rattle.clock.specs.declared.Reading.{Reading}
+use Rattle.clock.specs.declared.FactorAsked.{FactorAsked}
+use Rattle.clock.specs.declared.TimeAsked.{TimeAsked}
+use Rattle.clock.specs.declared.PlainReading.{PlainReading}
+use Rattle.clock.specs.declared.PlainFactor.{PlainFactor}
+use Rattle.clock.specs.declared.PlainTime.{PlainTime}
 
 -- Any two results that meet the promise P are equal.
 abbrev pub Unique : {A : Type 0} → (A → Type 0) → Type 0
@@ -274,6 +289,34 @@ pub record Node : Type 0 where
       × ((table′ ≡ called (Tick place) head table time out .table)
       × (out′ ≡ called (Tick place) head table time out .out)))
 
+-- What `clock` keeps, and what a message leaves, under names of their own.
+abbrev pub Estimator : Type 0
+Estimator = estimator.Clock
+
+abbrev pub Taken : Type 0
+Taken = step.Step
+
+-- The public functions of `clock`.
+pub record Clock : Type 0 where
+  -- src/states.rt: a new clock
+  pub «new_clock» : (none : Unit {0}) → Unique (λ (c : Estimator). c ≡ newClock)
+  -- src/layout.rt: a message from its bytes
+  pub «read_message» : (bytes : List ℕ) → Unique (λ (r : Reading). r ≡ readBy bytes)
+  -- src/updates.rt: the clock after a message
+  pub heard : (c : Estimator) (message : Message) (local : LocalTime) → Unique (λ (h : Taken). h ≡ heardBy c message local)
+  -- src/asking.rt: the factor and the Reference Time at a moment
+  pub factor : (c : Estimator) (local : LocalTime) → Unique (λ (f : FactorAsked). f ≡ factorAt c local)
+  pub «reference_time» : (c : Estimator) (local : LocalTime) → Unique (λ (t : TimeAsked). t ≡ timeAt c local)
+  -- src/exported.rt: the same for C, and the one function that takes the clock where it stands
+  pub «uj_clock_new» : (none : Unit {0}) → Unique (λ (c : Estimator). c ≡ newClock)
+  pub «uj_clock_read» : (bytes : List ℕ) → Unique (λ (r : PlainReading). r ≡ plainReading (readBy bytes))
+  pub «uj_clock_message» : (clock : Estimator) (message : Message) (local : LocalTime)
+      → Unique₂ (λ (n : ℕ) (clock′ : Estimator).
+      (n ≡ heardBy clock message local .event)
+      × (clock′ ≡ heardBy clock message local .clock))
+  pub «uj_clock_factor» : (clock : Estimator) (local : LocalTime) → Unique (λ (p : PlainFactor). p ≡ plainFactor (factorAt clock local))
+  pub «uj_clock_reference_time» : (clock : Estimator) (local : LocalTime) → Unique (λ (p : PlainTime). p ≡ plainTime (timeAt clock local))
+
 -- Every public function of the library.
 pub record Uniqueness : Type 0 where
   pub checkword : Checkword
@@ -281,3 +324,4 @@ pub record Uniqueness : Type 0 where
   pub link : Link
   pub firmware : Firmware
   pub node : Node
+  pub clock : Clock

@@ -1,0 +1,64 @@
+-- `clock::updates::synchronise` meets its contract: the tests in their order, each call's result put for its definition.
+-- Assumes nothing.
+use borrow.Author.Needs.{needs}
+use Rattle.clock.specs.Choice.{tests}
+use Rattle.clock.specs.Updates.{synchronise}
+use Rattle.clock.proofs.updates.synchronise.Statement.{statement}
+use Rattle.clock.proofs.updates.synchronise.Tie as tie
+
+above-requires : tie.Need-above-requires
+above-requires c κs = search needs
+
+anew-requires : tie.Need-anew-requires
+anew-requires c κs = search needs
+
+returns : tie.Need-returns
+unfolding synchronise
+returns c = rw (← c .before .before .above .ensures, ← c .anew .ensures) (search (tests, needs) depth 16)
+
+follows-requires : tie.Need-follows-requires
+follows-requires c κs = search needs
+
+kept-requires : tie.Need-kept-requires
+kept-requires c κs = search needs
+
+returns-2 : tie.Need-returns-2
+unfolding synchronise
+returns-2 c = rw (← c .before .before .before .before .above .ensures, ← c .before .before .follows .ensures, ← c .kept .ensures) (search (tests, needs) depth 16)
+
+pair-of-requires : tie.Need-pair-of-requires
+pair-of-requires c κs = search needs
+
+first-test-requires : tie.Need-first-test-requires
+first-test-requires c κs = search needs
+
+anew-requires-2 : tie.Need-anew-requires-2
+anew-requires-2 c κs = search needs
+
+returns-3 : tie.Need-returns-3
+unfolding synchronise
+returns-3 c = rw (← c .before .before .before .before .before .before .before .above .ensures, ← c .before .before .before .before .before .follows .ensures, ← c .before .before .before .pair-of .ensures, ← c .before .before .first-test .ensures, ← c .anew2 .ensures) (search (tests, needs) depth 16)
+
+joined-requires : tie.Need-joined-requires
+joined-requires c κs = search needs
+
+returns-4 : tie.Need-returns-4
+unfolding synchronise
+returns-4 c = rw (← c .before .before .before .before .before .before .before .above .ensures, ← c .before .before .before .before .before .follows .ensures, ← c .before .before .before .pair-of .ensures, ← c .before .before .first-test .ensures, ← c .joined .ensures) (search (tests, needs) depth 16)
+
+pub synchronise-spec : {M : Type 1} → statement M
+synchronise-spec =
+    tie.close
+    (tie.spec
+    above-requires
+    anew-requires
+    returns
+    follows-requires
+    kept-requires
+    returns-2
+    pair-of-requires
+    first-test-requires
+    anew-requires-2
+    returns-3
+    joined-requires
+    returns-4)

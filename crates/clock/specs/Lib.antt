@@ -1,0 +1,9 @@
+pub mod Asking
+pub mod Choice
+pub mod Circle
+pub mod Clocks
+pub mod Factor
+pub mod Plain
+pub mod Reading
+pub mod Tests
+pub mod Updates

@@ -1,0 +1,25 @@
+-- The bytes of a Sync and Reference Time message (6.3.1.9): 3, 0, 0, then its number and the Reference Time of the one before it, of four bytes each, lowest
+-- first (6.1.1.1).
+-- Assumes nothing.
+use mathlib.Core.Bool.{Bool, false}
+use mathlib.Core.List.{List}
+use Prim.Native.Nat.{ℕ, zero, suc, _+_, _*_}
+use lib.Dec.{eqb}
+use lib.ListN.{length, getD}
+use Rattle.clock.specs.Choice.{pick}
+use Rattle.clock.specs.declared.Reading.{Reading}
+use Rattle.clock.specs.declared.Reading.the-variants.{Good, NotEleven, OtherPrefix}
+
+-- The number that n bytes from a place on write.
+abbrev pub lowestFirst : ℕ → ℕ → List ℕ → ℕ
+lowestFirst zero at bs = 0
+lowestFirst (suc n) at bs = getD bs at 0 + 256 * lowestFirst n (at + 1) bs
+
+-- The configuration data prefix.
+unfoldable pub prefixed : List ℕ → Bool
+prefixed bs = pick (eqb (getD bs 0 0) 3) (pick (eqb (getD bs 1 0) 0) (eqb (getD bs 2 0) 0) false) false
+
+unfoldable pub readBy : List ℕ → Reading
+readBy bs =
+    pick (eqb (length bs) 11)
+    (pick (prefixed bs) (Good (record { number = lowestFirst 4 3 bs; reference = record { 0 = lowestFirst 4 7 bs } })) OtherPrefix) NotEleven

@@ -1,0 +1,86 @@
+-- What a message leaves: the clock, and the event by its number. Events from 101 on name the test that failed.
+-- Assumes nothing.
+use Prim.Native.Nat.{ℕ}
+use lib.Dec.{eqb, ltb}
+use Rattle.clock.specs.Choice.{pick}
+use Rattle.clock.specs.Factor.{newestOf, meanOf}
+use Rattle.clock.specs.Tests.{isAbove, isFollowing, failing, standingTests, laterTests, pairTests, periodOver, periodTests}
+use Rattle.clock.specs.Clocks.{unsynchronised, synchronised, keptBy, begunAnew, isolatedBy, pairedBy, synchronisedAt, resynchronisedAt, inPeriod}
+use Rattle.clock.specs.declared.LocalTime.{LocalTime}
+use Rattle.clock.specs.declared.Pair.{Pair}
+use Rattle.clock.specs.declared.Message.{Message}
+use Rattle.clock.specs.declared.Clock.{Clock}
+use Rattle.clock.specs.declared.Step.{Step}
+
+-- The Reference Time that a message carries is of the one before it, whose local time was saved (6.3.1.7, 7.2.1.15).
+unfoldable pub pairBy : Clock → Message → Pair
+pairBy c m = record { reference = m .reference; local = c .last .local }
+
+abbrev pub saying : ℕ → Clock → Step
+saying event c = record { clock = c; event = event }
+
+-- A failed test while unsynchronised: the pairs begin anew, and the message is kept.
+unfoldable pub anewBy : Clock → Message → LocalTime → ℕ → Step
+anewBy c m t event = saying event (keptBy (begunAnew c) m t)
+
+-- A failed test while synchronised: LostSync (7.4.1.7.3.3).
+unfoldable pub lostBy : Clock → ℕ → Step
+lostBy c event = saying event (isolatedBy c)
+
+-- ---- Synchronise (7.4.2)
+
+-- The tests of 7.4.2.2. The first pair has none before it.
+unfoldable pub firstTests : Clock → Pair → ℕ
+firstTests c p = pick (eqb (c .count) 0) 0 (failing (laterTests p (newestOf (c .pairs))))
+
+-- A pair more, event 1, of which the sixteenth synchronises, event 2.
+unfoldable pub joinedBy : Clock → Pair → Message → LocalTime → Step
+joinedBy c p m t =
+    pick (ltb (keptBy (pairedBy c p) m t .count) 16) (saying 1 (keptBy (pairedBy c p) m t)) (saying 2 (synchronisedAt (keptBy (pairedBy c p) m t) t))
+
+-- A number not above the last begins anew, event 101; a message that does not follow the last is kept alone, event 0.
+unfoldable pub synchronise : Clock → Message → LocalTime → Step
+synchronise c m t =
+    pick (isAbove (c .last) (m .number))
+    (pick (isFollowing (c .last) (m .number))
+    (pick (eqb (firstTests c (pairBy c m)) 0) (joinedBy c (pairBy c m) m t) (anewBy c m t (firstTests c (pairBy c m))))
+    (saying 0 (keptBy c m t)))
+    (anewBy c m t 101)
+
+-- ---- Resynchronise (7.4.3)
+
+-- 7.4.3.3 to 7.4.3.5, where the message makes a pair.
+unfoldable pub pairFailing : Clock → Message → ℕ → ℕ
+pairFailing c m factor = pick (isFollowing (c .last) (m .number)) (failing (pairTests (pairBy c m) (newestOf (c .pairs)) factor)) 0
+
+-- 7.4.3.6 and 7.4.3.7, where the period is over.
+unfoldable pub periodFailing : Clock → LocalTime → ℕ → ℕ
+periodFailing c t factor = pick (periodOver (c .period) t) (failing (periodTests (c .period) factor)) 0
+
+-- The first that fails, in the order of the paper.
+unfoldable pub allFailing : Clock → Message → LocalTime → ℕ → ℕ
+allFailing c m t factor = pick (eqb (pairFailing c m factor) 0) (periodFailing c t factor) (pairFailing c m factor)
+
+-- The pair of a message that makes one, event 3; else event 0.
+unfoldable pub pairTaken : Clock → Message → LocalTime → Step
+pairTaken c m t = pick (isFollowing (c .last) (m .number)) (saying 3 (resynchronisedAt (pairedBy c (pairBy c m)) t)) (saying 0 c)
+
+-- All tests passed: the pair, the period, and the message is the last.
+unfoldable pub goneOn : Clock → Message → LocalTime → ℕ → Step
+goneOn c m t factor = saying (pairTaken c m t .event) (keptBy (inPeriod (pairTaken c m t .clock) (periodOver (c .period) t) factor) m t)
+
+-- First whether the clock still stands; a number not above the last is dropped, event 4; then the tests, with the factor in use before the message.
+unfoldable pub resynchronise : Clock → Message → LocalTime → Step
+resynchronise c m t =
+    pick (eqb (failing (standingTests (c .count) (c .resynchronised) t)) 0)
+    (pick (isAbove (c .last) (m .number))
+    (pick (eqb (allFailing c m t (meanOf (c .pairs))) 0) (goneOn c m t (meanOf (c .pairs))) (lostBy c (allFailing c m t (meanOf (c .pairs)))))
+    (saying 4 c))
+    (lostBy c (failing (standingTests (c .count) (c .resynchronised) t)))
+
+-- ---- The state machine (7.4.1.7)
+
+-- An isolated clock takes no message, event 5.
+unfoldable pub heardBy : Clock → Message → LocalTime → Step
+heardBy c m t =
+    pick (eqb (c .state) unsynchronised) (synchronise c m t) (pick (eqb (c .state) synchronised) (resynchronise c m t) (saying 5 c))

@@ -1,0 +1,60 @@
+// A Sync and Reference Time message from its bytes, 6.3.1.9.
+ghost use mathlib.Core.Path.{_≡_};
+ghost use Prim.Native.Nat.{_<_, _≤_, _+_};
+ghost use lib.ListN.{length, getD};
+ghost use Rattle.clock.specs.Reading.{lowestFirst, prefixed, readBy};
+use crate::Message;
+use crate::Reading;
+use crate::RefTime;
+
+// How many bytes a message has.
+const BYTES: usize = 11;
+
+fn wide(x: u8) -> u32
+    ensures { λ n. ⌜ (n ≡ x) × (n < 256) ⌝ }
+{
+    x as u32
+}
+
+// The number of four bytes, lowest first (6.1.1.1).
+fn number_at(bytes: &[u8], at: usize) -> u32
+    requires { ⌜ (at < 8) × (at + 4 ≤ length (now bytes)) ⌝ }
+    ensures { λ n. ⌜ n ≡ lowestFirst 4 at (now (bytes .entry)) ⌝ }
+{
+    wide(bytes[at])
+        + 256
+            * (wide(bytes[at + 1])
+                + 256 * (wide(bytes[at + 1 + 1]) + 256 * wide(bytes[at + 1 + 1 + 1])))
+}
+
+// The configuration data prefix: 3, 0, 0.
+fn has_prefix(bytes: &[u8]) -> bool
+    requires { ⌜ length (now bytes) ≡ 11 ⌝ }
+    ensures { λ b. ⌜ b ≡ prefixed (now (bytes .entry)) ⌝ }
+{
+    if bytes[0] != 3 {
+        return false;
+    }
+    if bytes[1] != 0 {
+        return false;
+    }
+    bytes[2] == 0
+}
+
+pub fn read_message(bytes: &[u8]) -> Reading
+    ensures { λ r. ⌜ r ≡ readBy (now (bytes .entry)) ⌝ }
+{
+    if bytes.len() != BYTES {
+        return Reading::NotEleven;
+    }
+    if !has_prefix(bytes) {
+        return Reading::OtherPrefix;
+    }
+    let number = number_at(bytes, 3);
+    let time = number_at(bytes, 7);
+    let message = Message {
+        number,
+        reference: RefTime(time),
+    };
+    Reading::Good(message)
+}
