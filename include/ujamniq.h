@@ -390,7 +390,7 @@ uj_reading uj_clock_read(const uint8_t *bytes, size_t length);
 #define UJ_CLOCK_DROPPED 4u        /* synchronised, and the number is not above the last: not looked at, the clock is as it was */
 #define UJ_CLOCK_STAYS_ISOLATED 5u /* isolated: not looked at, the clock is as it was */
 #define UJ_CLOCK_FAILED 100u       /* this number or a greater one: a test failed */
-#define UJ_CLOCK_NOT_ABOVE 101u        /* not synchronised, and the number is not above the last: the reference clock began anew */
+#define UJ_CLOCK_NOT_ABOVE 101u        /* not synchronised, and the number is not above the last: all is forgotten, the next message is the first */
 #define UJ_CLOCK_NO_FACTOR 102u        /* synchronised with fewer than 16 pairs, which no message brings about (7.4.1.5.1) */
 #define UJ_CLOCK_TOO_LATE 103u         /* more than 3 s since the last resynchronisation (7.4.1.6) */
 #define UJ_CLOCK_REFERENCE_NOT_LATER 104u /* the Reference Time is not later than that of the newest pair (7.4.2.2.1, 7.4.3.3) */

@@ -55,7 +55,7 @@ unfolding spreadOf
 spread-none base ps = refl
 
 -- how large a sum of distances can be: with sixteen of them it is far from the ends of 64 bits
-spread-small : (base : ℕ) (ps : List Pair) → mag (spreadOf base ps) ≤ length ps * 2 ^ 31
+pub spread-small : (base : ℕ) (ps : List Pair) → mag (spreadOf base ps) ≤ length ps * 2 ^ 31
 unfolding spreadOf
 spread-small base [] = omega arith
 spread-small base (p ∷ ps) = omega (arith, mag-add (distanceOf (differenceOf p) base) (spreadOf base ps), distance-small (differenceOf p) base, spread-small base ps)

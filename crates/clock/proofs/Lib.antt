@@ -1,6 +1,11 @@
 pub mod Averages
 pub mod Cases
 pub mod Circling
+pub mod Facts
 pub mod Lent
+pub mod Losing
+pub mod Moving
+pub mod Rounding
 pub mod Walk
 pub mod Whole
+pub mod Worked

@@ -55,6 +55,17 @@ begunAnew c = record {
   period = c .period;
 }
 
+-- As before the first message: no pair counts, and no message was received.
+unfoldable pub forgotten : Clock → Clock
+forgotten c = record {
+  pairs = c .pairs;
+  count = 0;
+  state = c .state;
+  last = record { received = 0; number = c .last .number; local = c .last .local };
+  resynchronised = c .resynchronised;
+  period = c .period;
+}
+
 -- Isolated, and no pair counts.
 unfoldable pub isolatedBy : Clock → Clock
 isolatedBy c = record {

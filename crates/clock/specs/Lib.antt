@@ -3,7 +3,9 @@ pub mod Choice
 pub mod Circle
 pub mod Clocks
 pub mod Factor
+pub mod Facts
 pub mod Plain
 pub mod Reading
 pub mod Tests
 pub mod Updates
+pub mod Worked

@@ -5,7 +5,7 @@ use lib.Dec.{eqb, ltb}
 use Rattle.clock.specs.Choice.{pick}
 use Rattle.clock.specs.Factor.{newestOf, meanOf}
 use Rattle.clock.specs.Tests.{isAbove, isFollowing, failing, standingTests, laterTests, pairTests, periodOver, periodTests}
-use Rattle.clock.specs.Clocks.{unsynchronised, synchronised, keptBy, begunAnew, isolatedBy, pairedBy, synchronisedAt, resynchronisedAt, inPeriod}
+use Rattle.clock.specs.Clocks.{unsynchronised, synchronised, keptBy, begunAnew, forgotten, isolatedBy, pairedBy, synchronisedAt, resynchronisedAt, inPeriod}
 use Rattle.clock.specs.declared.LocalTime.{LocalTime}
 use Rattle.clock.specs.declared.Pair.{Pair}
 use Rattle.clock.specs.declared.Message.{Message}
@@ -38,14 +38,15 @@ unfoldable pub joinedBy : Clock → Pair → Message → LocalTime → Step
 joinedBy c p m t =
     pick (ltb (keptBy (pairedBy c p) m t .count) 16) (saying 1 (keptBy (pairedBy c p) m t)) (saying 2 (synchronisedAt (keptBy (pairedBy c p) m t) t))
 
--- A number not above the last begins anew, event 101; a message that does not follow the last is kept alone, event 0.
+-- A number not above the last forgets all, event 101: whether it is a copy, or the reference clock began anew, can't be told. A message that does not follow the
+-- last is kept alone, event 0.
 unfoldable pub synchronise : Clock → Message → LocalTime → Step
 synchronise c m t =
     pick (isAbove (c .last) (m .number))
     (pick (isFollowing (c .last) (m .number))
     (pick (eqb (firstTests c (pairBy c m)) 0) (joinedBy c (pairBy c m) m t) (anewBy c m t (firstTests c (pairBy c m))))
     (saying 0 (keptBy c m t)))
-    (anewBy c m t 101)
+    (saying 101 (forgotten c))
 
 -- ---- Resynchronise (7.4.3)
 

@@ -1,6 +1,6 @@
 // The clock in its states, 7.4.1.7.2, and what a message leaves of it. A zeroed clock is in none of them.
 ghost use mathlib.Core.Path.{_≡_};
-ghost use Rattle.clock.specs.Clocks.{newClock, keptBy, pairedBy, begunAnew, isolatedBy, synchronisedAt, nextPeriod, countingPeriod, periodAfter, inPeriod, resynchronisedAt, countedOf};
+ghost use Rattle.clock.specs.Clocks.{newClock, keptBy, pairedBy, begunAnew, forgotten, isolatedBy, synchronisedAt, nextPeriod, countingPeriod, periodAfter, inPeriod, resynchronisedAt, countedOf};
 use crate::Clock;
 use crate::Last;
 use crate::LocalTime;
@@ -75,6 +75,18 @@ pub(crate) fn begun_anew(c: Clock) -> Clock
 {
     let mut d = c;
     d.count = 0;
+    d
+}
+
+// As before the first message.
+pub(crate) fn forgetting(c: Clock) -> Clock
+    ensures { λ d. ⌜ d ≡ forgotten c ⌝ }
+{
+    let mut last = c.last;
+    last.received = 0;
+    let mut d = c;
+    d.count = 0;
+    d.last = last;
     d
 }
 

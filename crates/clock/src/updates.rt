@@ -26,6 +26,7 @@ use crate::means::mean;
 use crate::states::SYNCHRONISED;
 use crate::states::UNSYNCHRONISED;
 use crate::states::begun_anew;
+use crate::states::forgetting;
 use crate::states::in_period;
 use crate::states::isolated;
 use crate::states::kept;
@@ -101,7 +102,11 @@ fn synchronise(c: Clock, message: Message, local: LocalTime) -> Step
     ensures { λ h. ⌜ h ≡ synchronise c message local ⌝ }
 {
     if !above(c.last, message.number) {
-        return anew(c, message, local, NOT_ABOVE);
+        let clock = forgetting(c);
+        return Step {
+            clock,
+            event: NOT_ABOVE,
+        };
     }
     if !follows(c.last, message.number) {
         let clock = kept(c, message, local);

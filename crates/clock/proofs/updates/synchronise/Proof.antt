@@ -9,12 +9,12 @@ use Rattle.clock.proofs.updates.synchronise.Tie as tie
 above-requires : tie.Need-above-requires
 above-requires c κs = search needs
 
-anew-requires : tie.Need-anew-requires
-anew-requires c κs = search needs
+forgetting-requires : tie.Need-forgetting-requires
+forgetting-requires c κs = search needs
 
 returns : tie.Need-returns
 unfolding synchronise
-returns c = rw (← c .before .before .above .ensures, ← c .anew .ensures) (search (tests, needs) depth 16)
+returns c = rw (← c .before .before .above .ensures, ← c .forgetting .ensures) (search (tests, needs) depth 16)
 
 follows-requires : tie.Need-follows-requires
 follows-requires c κs = search needs
@@ -32,12 +32,12 @@ pair-of-requires c κs = search needs
 first-test-requires : tie.Need-first-test-requires
 first-test-requires c κs = search needs
 
-anew-requires-2 : tie.Need-anew-requires-2
-anew-requires-2 c κs = search needs
+anew-requires : tie.Need-anew-requires
+anew-requires c κs = search needs
 
 returns-3 : tie.Need-returns-3
 unfolding synchronise
-returns-3 c = rw (← c .before .before .before .before .before .before .before .above .ensures, ← c .before .before .before .before .before .follows .ensures, ← c .before .before .before .pair-of .ensures, ← c .before .before .first-test .ensures, ← c .anew2 .ensures) (search (tests, needs) depth 16)
+returns-3 c = rw (← c .before .before .before .before .before .before .before .above .ensures, ← c .before .before .before .before .before .follows .ensures, ← c .before .before .before .pair-of .ensures, ← c .before .before .first-test .ensures, ← c .anew .ensures) (search (tests, needs) depth 16)
 
 joined-requires : tie.Need-joined-requires
 joined-requires c κs = search needs
@@ -51,14 +51,14 @@ synchronise-spec =
     tie.close
     (tie.spec
     above-requires
-    anew-requires
+    forgetting-requires
     returns
     follows-requires
     kept-requires
     returns-2
     pair-of-requires
     first-test-requires
-    anew-requires-2
+    anew-requires
     returns-3
     joined-requires
     returns-4)

@@ -1,0 +1,239 @@
+-- What is shown of the clock. proofs/Facts.antt proves each statement under the same name in small letters, and all of them as `facts`.
+-- Assumes nothing.
+use mathlib.Core.Path.{_≡_}
+use mathlib.Core.Bool.{false}
+use mathlib.Core.List.{List, [], _∷_, _++_}
+use Prim.Native.Nat.{ℕ, zero, suc, _+_, _-_, _/_, _%_, _^_, _<_, _≤_}
+use lib.ListN.{length}
+use mathlib.Core.List.{map}
+use lib.IntN.{ℤ, pos, negsuc, _+ℤ_, _*ℤ_}
+use lib.Signed.{_≤ℤ_}
+use Rattle.clock.specs.Circle.{minus, distanceOf, apartBy}
+use Rattle.clock.specs.Factor.{differenceOf, floor16, around, newestOf, meanOf}
+use Rattle.clock.specs.Tests.{isFollowing, elapsed, failing, nearTests, periodTests}
+use Rattle.clock.specs.Clocks.{synchronised, isolated}
+use Rattle.clock.specs.Updates.{heardBy}
+use Rattle.clock.specs.Asking.{factorAt, timeAt}
+use Rattle.clock.specs.Reading.{readBy}
+use Rattle.clock.specs.Plain.{plainFactor, plainTime}
+use Rattle.clock.specs.declared.LocalTime.{LocalTime}
+use Rattle.clock.specs.declared.RefTime.{RefTime}
+use Rattle.clock.specs.declared.Pair.{Pair}
+use Rattle.clock.specs.declared.Message.{Message}
+use Rattle.clock.specs.declared.Last.{Last}
+use Rattle.clock.specs.declared.Period.{Period}
+use Rattle.clock.specs.declared.Clock.{Clock}
+use Rattle.clock.specs.declared.Step.{Step}
+use Rattle.clock.specs.declared.Reading.the-variants.{Good}
+use Rattle.clock.specs.declared.FactorAsked.the-variants as asked
+use Rattle.clock.specs.declared.TimeAsked.{TimeAsked}
+use Rattle.clock.specs.declared.TimeAsked.the-variants as time
+
+-- Every element of a list has a property.
+abbrev pub Every : {A : Type 0} → (A → Type 0) → List A → Type 0
+Every P [] = Unit {0}
+Every P (x ∷ xs) = P x × Every P xs
+
+-- ---- The factor
+
+-- The mean of sixteen equal differences is that difference.
+abbrev pub Equal-differences : Type 0
+Equal-differences = (ps : List Pair) (d : ℕ) → length ps ≡ 16 → d < 2 ^ 32 → Every (λ (p : Pair). differenceOf p ≡ d) ps → meanOf ps ≡ d
+
+-- Both times of a pair are numbers of 32 bits, as they are in the code.
+abbrev pub Timed : Pair → Type 0
+Timed p = (p .reference .0 < 2 ^ 32) × (p .local .0 < 2 ^ 32)
+
+-- A number moved on by k on the circle.
+abbrev pub onward : ℕ → ℕ → ℕ
+onward k a = (a + k) % 2 ^ 32
+
+abbrev pub laterReference : ℕ → Pair → Pair
+laterReference k p = record { reference = record { 0 = onward k (p .reference .0) }; local = p .local }
+
+-- Adding one constant to all reference times adds it to the factor, modulo 2^32.
+abbrev pub Constant-added : Type 0
+Constant-added = (ps : List Pair) (k : ℕ) → length ps ≡ 16 → Every Timed ps → meanOf (map (laterReference k) ps) ≡ onward k (meanOf ps)
+
+-- The factor lies between the least and the greatest difference, as signed distances from the newest one: any two bounds of theirs are bounds of its.
+abbrev pub Between : Type 0
+Between =
+    (ps : List Pair) (low high : ℤ) → length ps ≡ 16
+    → Every (λ (p : Pair). (low ≤ℤ distanceOf (differenceOf p) (differenceOf (newestOf ps))) × (distanceOf (differenceOf p) (differenceOf (newestOf ps)) ≤ℤ high)) ps
+    → (low ≤ℤ distanceOf (meanOf ps) (differenceOf (newestOf ps))) × (distanceOf (meanOf ps) (differenceOf (newestOf ps)) ≤ℤ high)
+
+-- What a division by sixteen leaves.
+abbrev pub left16 : ℤ → ℕ
+left16 (pos n) = n % 16
+left16 (negsuc n) = 15 - n % 16
+
+-- Rounded down: sixteen times the sixteenth, and from 0 to 15 more, is the number.
+abbrev pub Floor : Type 0
+Floor = (z : ℤ) → (left16 z < 16) × (floor16 z *ℤ pos 16 +ℤ pos (left16 z) ≡ z)
+
+-- A distance is one: b, and how far a lies after b, is a again on the circle.
+abbrev pub Distance-back : Type 0
+Distance-back = (a b : ℕ) → a < 2 ^ 32 → b < 2 ^ 32 → around (pos b +ℤ distanceOf a b) ≡ a
+
+-- ---- Which messages make a pair
+
+-- Where the message before it was not the one received last, no pair is made, and the Reference Time that it carries is not looked at.
+abbrev pub Only-in-sequence : Type 0
+Only-in-sequence =
+    (c : Clock) (n : ℕ) (r s : RefTime) (t : LocalTime) → isFollowing (c .last) n ≡ false
+    → (heardBy c (record { number = n; reference = r }) t .clock .pairs ≡ c .pairs)
+    × (heardBy c (record { number = n; reference = r }) t ≡ heardBy c (record { number = n; reference = s }) t)
+
+-- So it is for message 0, whatever was received before it (6.3.1.8).
+abbrev pub Message-0-unused : Type 0
+Message-0-unused = (l : Last) → isFollowing l 0 ≡ false
+
+-- ---- The limits, at both sides of each
+
+-- 99 ms pass and 100 fail (7.4.3.5).
+abbrev pub Short-term : Type 0
+Short-term =
+    (p : Pair) (factor : ℕ)
+    → (apartBy (differenceOf p) factor ≤ 99 → failing (nearTests p factor) ≡ 0) × (100 ≤ apartBy (differenceOf p) factor → failing (nearTests p factor) ≡ 106)
+
+-- 30 ms pass and 31 fail, in a period with messages enough (7.4.3.7).
+abbrev pub Long-term : Type 0
+Long-term =
+    (p : Period) (factor : ℕ) → 18 ≤ p .messages
+    → (apartBy factor (p .factor) ≤ 30 → failing (periodTests p factor) ≡ 0) × (31 ≤ apartBy factor (p .factor) → failing (periodTests p factor) ≡ 108)
+
+-- 17 messages in a period fail (7.4.3.6).
+abbrev pub Too-few-messages : Type 0
+Too-few-messages = (p : Period) (factor : ℕ) → p .messages ≤ 17 → failing (periodTests p factor) ≡ 107
+
+-- ---- Losing it
+
+-- A test that fails while synchronised isolates, and no pair counts.
+abbrev pub Lost-isolates : Type 0
+Lost-isolates =
+    (c : Clock) (m : Message) (t : LocalTime) → c .state ≡ synchronised → 101 ≤ heardBy c m t .event
+    → (heardBy c m t .clock .state ≡ isolated) × (heardBy c m t .clock .count ≡ 0)
+
+-- The clock after a run of messages, each with the local time at its reception.
+abbrev pub after : Clock → List (Message × LocalTime) → Clock
+after c [] = c
+after c (x ∷ xs) = after (heardBy c (x .0) (x .1) .clock) xs
+
+-- An isolated clock stays as it is whatever comes, and whoever asks gets 9 ever after.
+abbrev pub Isolated-for-good : Type 0
+Isolated-for-good =
+    (c : Clock) (xs : List (Message × LocalTime)) (t : LocalTime) → c .state ≡ isolated
+    → (after c xs ≡ c) × ((plainFactor (factorAt (after c xs) t) .answer ≡ 9) × (plainTime (timeAt (after c xs) t) .answer ≡ 9))
+
+-- Before it is synchronised a clock answers 9 (7.4.1.1) ..
+abbrev pub Not-before : Type 0
+Not-before = (c : Clock) (t : LocalTime) → (c .state ≡ synchronised → ⊥) → (factorAt c t ≡ asked.TooFewPairs) × (timeAt c t ≡ time.TooFewPairs)
+
+-- .. and once 3 s have passed since the last resynchronisation.
+abbrev pub Never-stale : Type 0
+Never-stale =
+    (c : Clock) (t : LocalTime) → 3001 ≤ elapsed (c .resynchronised) t → (factorAt c t ≡ asked.TooFewPairs) × (timeAt c t ≡ time.TooFewPairs)
+
+-- ---- The wrap
+
+-- Every time that the clock keeps is a number of 32 bits, as it is in the code, and there are sixteen pairs.
+pub record Ranged (c : Clock) : Type 0 where
+  pub sixteen : length (c .pairs) ≡ 16
+  pub pairs : Every Timed (c .pairs)
+  pub last : c .last .local .0 < 2 ^ 32
+  pub resynchronised : c .resynchronised .0 < 2 ^ 32
+  pub begun : c .period .begun .0 < 2 ^ 32
+  pub factor : c .period .factor < 2 ^ 32
+
+-- The same with all reference times moved on by j and all local times by k: the factor moves on by j - k.
+abbrev pub movedPair : ℕ → ℕ → Pair → Pair
+movedPair j k p = record { reference = record { 0 = onward j (p .reference .0) }; local = record { 0 = onward k (p .local .0) } }
+
+abbrev pub movedFactor : ℕ → ℕ → ℕ → ℕ
+movedFactor j k f = minus (onward j f) k
+
+abbrev pub movedLocal : ℕ → LocalTime → LocalTime
+movedLocal k t = record { 0 = onward k (t .0) }
+
+abbrev pub movedPeriod : ℕ → ℕ → Period → Period
+movedPeriod j k p = record { begun = movedLocal k (p .begun); factor = movedFactor j k (p .factor); messages = p .messages }
+
+abbrev pub movedClock : ℕ → ℕ → Clock → Clock
+movedClock j k c = record {
+  pairs = map (movedPair j k) (c .pairs);
+  count = c .count;
+  state = c .state;
+  last = record { received = c .last .received; number = c .last .number; local = movedLocal k (c .last .local) };
+  resynchronised = movedLocal k (c .resynchronised);
+  period = movedPeriod j k (c .period);
+}
+
+abbrev pub movedMessage : ℕ → Message → Message
+movedMessage j m = record { number = m .number; reference = record { 0 = onward j (m .reference .0) } }
+
+abbrev pub movedStep : ℕ → ℕ → Step → Step
+movedStep j k s = record { clock = movedClock j k (s .clock); event = s .event }
+
+-- Where a clock wraps changes nothing but the wrap: with both clocks begun anywhere else, each message has the same event and leaves the same clock, moved.
+abbrev pub Wrap-unseen : Type 0
+Wrap-unseen =
+    (j k : ℕ) → k < 2 ^ 32 → (c : Clock) (m : Message) (t : LocalTime) → Ranged c → m .reference .0 < 2 ^ 32
+    → heardBy (movedClock j k c) (movedMessage j m) (movedLocal k t) ≡ movedStep j k (heardBy c m t)
+
+-- A message and its moment in range, and moved.
+abbrev pub In-range : Message × LocalTime → Type 0
+In-range x = (x .0 .reference .0 < 2 ^ 32) × (x .1 .0 < 2 ^ 32)
+
+abbrev pub movedHeard : ℕ → ℕ → Message × LocalTime → Message × LocalTime
+movedHeard j k x = (movedMessage j (x .0), movedLocal k (x .1))
+
+-- So it is after every run of messages.
+abbrev pub Wrap-unseen-run : Type 0
+Wrap-unseen-run =
+    (j k : ℕ) → k < 2 ^ 32 → (c : Clock) (xs : List (Message × LocalTime)) → Ranged c → Every In-range xs
+    → after (movedClock j k c) (map (movedHeard j k) xs) ≡ movedClock j k (after c xs)
+
+-- And the Reference Time asked for is the same, moved.
+abbrev pub movedAsked : ℕ → TimeAsked → TimeAsked
+movedAsked j (time.At r) = time.At (record { 0 = onward j (r .0) })
+movedAsked j time.TooFewPairs = time.TooFewPairs
+
+abbrev pub Wrap-unseen-asking : Type 0
+Wrap-unseen-asking =
+    (j k : ℕ) → k < 2 ^ 32 → (c : Clock) (t : LocalTime) → Ranged c
+    → timeAt (movedClock j k c) (movedLocal k t) ≡ movedAsked j (timeAt c t)
+
+-- ---- The bytes
+
+-- The n lowest bytes of a number, lowest first.
+abbrev pub bytesOf : ℕ → ℕ → List ℕ
+bytesOf zero x = []
+bytesOf (suc n) x = x % 256 ∷ bytesOf n (x / 256)
+
+-- A message laid out as 6.3.1.9 prints it is read back.
+abbrev pub Read-back : Type 0
+Read-back =
+    (m : Message) → m .number < 2 ^ 32 → m .reference .0 < 2 ^ 32
+    → readBy (3 ∷ 0 ∷ 0 ∷ bytesOf 4 (m .number) ++ bytesOf 4 (m .reference .0)) ≡ Good m
+
+-- ---- All of them
+
+pub record Facts : Type 0 where
+  pub equal-differences : Equal-differences
+  pub constant-added : Constant-added
+  pub between : Between
+  pub floor : Floor
+  pub distance-back : Distance-back
+  pub only-in-sequence : Only-in-sequence
+  pub message-0-unused : Message-0-unused
+  pub short-term : Short-term
+  pub long-term : Long-term
+  pub too-few-messages : Too-few-messages
+  pub lost-isolates : Lost-isolates
+  pub isolated-for-good : Isolated-for-good
+  pub not-before : Not-before
+  pub never-stale : Never-stale
+  pub wrap-unseen : Wrap-unseen
+  pub wrap-unseen-run : Wrap-unseen-run
+  pub wrap-unseen-asking : Wrap-unseen-asking
+  pub read-back : Read-back
