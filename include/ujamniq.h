@@ -1,10 +1,10 @@
 /*
- * Ujamniq: the Safe Link Layer of the STM bus (SUBSET-057 version 2.2.0), levels 4 and 2, for C firmware.
+ * Ujamniq: the Safe Link Layer of the STM bus (SUBSET-057 version 2.2.0), levels 4 and 2, and the local clock of its Safe Time Layer, for C firmware.
  *
  * Link libujamniq.a, which `./install FOLDER` makes: every function of this header is in it. It uses no heap.
  *
  * A node uses the five calls over its table: uj_open, uj_close, uj_send, uj_received, uj_tick. They write every telegram and check every telegram by
- * themselves. The writers, the check and the check word also stand alone.
+ * themselves. The writers, the check and the check word also stand alone, and so does the local clock of SUBSET-056, the last part of this header.
  *
  * Every function here takes any numbers and any bytes, ends, and keeps nothing between two calls. Four rules on memory are yours; nothing can check
  * them for you:
@@ -63,6 +63,8 @@ extern "C" {
  *   uj_open, uj_close, uj_send                                                1, 4, 7, 2, 8, 3, 5
  *   uj_received                                                               1, 4, 7, 6, 2, 8, 5
  *   uj_tick                                                                   1, 4, 7, 2, 8
+ *   uj_clock_read                                                             110, 111, see there
+ *   uj_clock_factor, uj_clock_reference_time                                  9, see there
  * The other functions refuse nothing. */
 
 /* New set-up desired (5.2.5.9, byte 3), the type of a disconnect: whether the connection may be set up anew. */
@@ -310,13 +312,16 @@ uj_outcome uj_tick(uj_record *table, size_t count, uj_head head, uint64_t time, 
  * The local clock (SUBSET-056 version 3.0.0, sections 6.3, 7.2 and 7.4): Reference Time on a node that has no reference clock. It stands beside the calls: it
  * knows no table and no telegram, and no call looks at it.
  *
- * The clock is yours, one for the node: make it with uj_clock_new at power-on, and lend it to uj_clock_message for each Sync and Reference Time message, in
- * the order in which they came. The message's bytes are the net data of a multicast telegram, which you have checked: whether they are genuine is
- * not asked here. A `uj_clock *` is readable (for uj_clock_message: writable) and aligned as C aligns a uj_clock, and until the call returns no other thread
- * and no interrupt changes it. Copies are good: nothing in it points anywhere.
+ * The clock is yours, one for the node. Make it with uj_clock_new at power-on, lend it to uj_clock_message for each Sync and Reference Time message, in the
+ * order in which they came, and ask it with uj_clock_reference_time. The bytes of a message are the net data of a multicast telegram, which you have
+ * checked: whether they are genuine is not asked here. A `uj_clock *` is readable (for uj_clock_message: writable) and aligned as C aligns a uj_clock, and
+ * until the call returns no other thread and no interrupt changes it. Copies are good: nothing in it points anywhere.
  *
  * Both times are counted in milliseconds and wrap at 2^32. Each has a type of its own, so that none stands in for the other. Only
  * uj_clock_reference_time makes a Reference Time out of a local time.
+ *
+ * Nothing runs by itself. That the bus is silent is noticed by asking alone: ask regularly, well within 3 s. An answer UJ_TOO_FEW_PAIRS from a clock whose
+ * state is UJ_CLOCK_SYNCHRONISED means that synchronisation is lost (7.4.1.7.3.3), and the next message isolates the clock.
  */
 
 /* Local_Clock_Time: the reading of this node's own free running counter (3.4.7.2). */
@@ -349,7 +354,8 @@ typedef struct uj_sync_message {
 #define UJ_CLOCK_SYNCHRONISED 2u
 #define UJ_CLOCK_ISOLATED 3u
 
-/* The estimator. Read it as you like; only the functions here change it. Any values are taken. */
+/* The estimator. Only the functions here change it. Any values are taken. Pairs that don't count, and the fields of `last` while `received` is 0, have no
+ * meaning. */
 typedef struct uj_clock {
     uj_pair pairs[UJ_CLOCK_PAIRS]; /* newest first */
     uint32_t count;                /* how many of them count; more than 16 count as 16 */
@@ -370,9 +376,11 @@ typedef struct uj_clock {
 /* A clock that has received no message. A clock that is isolated stays so: only a restart of the node may put a new one in its place. */
 uj_clock uj_clock_new(void);
 
-/* What a run of bytes is. When `answer` is not UJ_DONE, the message's fields are 0 and it must not be used. */
+/* Further answers of uj_clock_read. */
 #define UJ_CLOCK_NOT_ELEVEN 110u   /* no Sync and Reference Time message: it has not 11 bytes */
 #define UJ_CLOCK_OTHER_PREFIX 111u /* no Sync and Reference Time message: it does not begin with 3, 0, 0 */
+
+/* What a run of bytes is. When `answer` is not UJ_DONE, the message's fields are 0 and it must not be used. */
 typedef struct uj_reading {
     uint32_t answer;
     uj_sync_message message;
@@ -381,34 +389,34 @@ typedef struct uj_reading {
 /* Reads a message from its bytes: 3, 0, 0, then number and Reference Time of four bytes each, lowest byte first (6.3.1.9, 6.1.1.1). */
 uj_reading uj_clock_read(const uint8_t *bytes, size_t length);
 
-/* What a message did. From UJ_CLOCK_FAILED on it is the test that failed: a clock that was synchronised is isolated by it, one that was not begins
- * with its pairs anew. */
-#define UJ_CLOCK_KEPT 0u           /* no pair: the message before it was not received, or lay before the first; its local time is kept for the next one */
-#define UJ_CLOCK_PAIRED 1u         /* one pair more, and not yet 16 */
-#define UJ_CLOCK_NOW_SYNCHRONISED 2u /* the sixteenth pair: synchronised from now on */
-#define UJ_CLOCK_RESYNCHRONISED 3u /* one pair more, all tests passed */
-#define UJ_CLOCK_DROPPED 4u        /* synchronised, and the number is not above the last: not looked at, the clock is as it was */
-#define UJ_CLOCK_STAYS_ISOLATED 5u /* isolated: not looked at, the clock is as it was */
-#define UJ_CLOCK_FAILED 100u       /* this number or a greater one: a test failed */
-#define UJ_CLOCK_NOT_ABOVE 101u        /* not synchronised, and the number is not above the last: all is forgotten, the next message is the first */
-#define UJ_CLOCK_NO_FACTOR 102u        /* synchronised with fewer than 16 pairs, which no message brings about (7.4.1.5.1) */
-#define UJ_CLOCK_TOO_LATE 103u         /* more than 3 s since the last resynchronisation (7.4.1.6) */
+/* What a message did: events, which are no answers and refuse nothing. From UJ_CLOCK_FAILED on it is the test that failed. A clock that was synchronised is
+ * then isolated; on one that was not no pair counts any more, and it goes on from this message, or, after UJ_CLOCK_NOT_ABOVE, from the next. */
+#define UJ_CLOCK_KEPT 0u                  /* no pair: the message before this one was not received. Its local time is kept for the next */
+#define UJ_CLOCK_PAIRED 1u                /* one pair more, and not yet 16 */
+#define UJ_CLOCK_NOW_SYNCHRONISED 2u      /* the sixteenth pair: synchronised from now on */
+#define UJ_CLOCK_RESYNCHRONISED 3u        /* one pair more, and all tests passed */
+#define UJ_CLOCK_DROPPED 4u               /* synchronised, and the number is not above the last: not looked at, the clock is as it was */
+#define UJ_CLOCK_STAYS_ISOLATED 5u        /* isolated: not looked at, the clock is as it was */
+#define UJ_CLOCK_FAILED 100u              /* a greater number: a test failed */
+#define UJ_CLOCK_NOT_ABOVE 101u           /* not synchronised, and the number is not above the last: no message counts as received any more */
+#define UJ_CLOCK_NO_FACTOR 102u           /* synchronised with fewer than 16 pairs, which no message brings about (7.4.1.5.1) */
+#define UJ_CLOCK_TOO_LATE 103u            /* more than 3 s since the last resynchronisation (7.4.1.6) */
 #define UJ_CLOCK_REFERENCE_NOT_LATER 104u /* the Reference Time is not later than that of the newest pair (7.4.2.2.1, 7.4.3.3) */
-#define UJ_CLOCK_LOCAL_NOT_LATER 105u  /* the same of the local time (7.4.2.2.2, 7.4.3.4) */
-#define UJ_CLOCK_SHORT_TERM 106u       /* 100 ms or more away from the factor (7.4.3.5) */
-#define UJ_CLOCK_TOO_FEW 107u          /* fewer than 18 messages in the 30 s period that ended (7.4.3.6) */
-#define UJ_CLOCK_LONG_TERM 108u        /* the factor moved by more than 30 ms in the 30 s period that ended (7.4.3.7) */
+#define UJ_CLOCK_LOCAL_NOT_LATER 105u     /* the same of the local time (7.4.2.2.2, 7.4.3.4) */
+#define UJ_CLOCK_SHORT_TERM 106u          /* 100 ms or more away from the factor (7.4.3.5) */
+#define UJ_CLOCK_TOO_FEW 107u             /* fewer than 18 messages in the 30 s period that ended (7.4.3.6) */
+#define UJ_CLOCK_LONG_TERM 108u           /* the factor moved by more than 30 ms in the 30 s period that ended (7.4.3.7) */
 
-/* Takes a message that was received at `local`, for the clock where it stands. After an answer from UJ_CLOCK_FAILED on, look at clock->state: where it is
+/* Takes a message that was received at `local`, for the clock where it stands, and returns the event. Look at clock->state after each: where it has become
  * UJ_CLOCK_ISOLATED, all logical connections of the node are to be disconnected, multicast included (7.4.1.7.4.4). */
 uint32_t uj_clock_message(uj_clock *clock, uj_sync_message message, uj_local_time local);
 
-/* Fewer than 16 pairs count: no factor and no Reference Time (7.4.4.2.2, 7.4.1.1). The last in the order of the answers. */
+/* A further answer: fewer than 16 pairs count, so that there is no factor and no Reference Time (7.4.4.2.2, 7.4.1.1). The last in the order. */
 #define UJ_TOO_FEW_PAIRS 9u
 
-/* The factor and the Reference Time at the moment `local`, from the last resynchronisation to 3 s after it. Answers UJ_DONE or UJ_TOO_FEW_PAIRS. At any
- * other moment no pair counts, and none ever counts on a clock that is not synchronised. So a card that hears no more messages gets no time that is
- * older than 3 s. When `answer` is not UJ_DONE, the other part is 0 and must not be used. The clock stays as it is. */
+/* The factor and the Reference Time at the moment `local`. Answers UJ_DONE or UJ_TOO_FEW_PAIRS. Pairs count on a synchronised clock alone, and at moments
+ * that are at most 3 s away from the last resynchronisation: so no time is given that is older than 3 s. A counter that was read just before the last
+ * message was taken is good. When `answer` is not UJ_DONE, the other part is 0 and must not be used. The clock stays as it is. */
 typedef struct uj_factor {
     uint32_t answer;
     uint32_t factor; /* Reference Time less local time, modulo 2^32 */

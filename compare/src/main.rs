@@ -6,10 +6,23 @@ mod bus_run;
 mod case;
 mod check;
 mod check_cases;
+mod clock;
+mod clock_border;
+mod clock_bus;
+mod clock_bytes;
+mod clock_case;
+mod clock_cases;
+mod clock_hours;
+mod clock_means;
+mod clock_message;
+mod clock_rules;
+mod clock_runs;
+mod clocks;
 mod conversations;
 mod draft;
 mod exchanged_cards;
 mod library;
+mod library_clock;
 mod library_link;
 mod library_node;
 mod link;
@@ -49,6 +62,9 @@ mod worked;
 mod write_cases;
 mod wrong;
 mod wrong_calls;
+mod wrong_clock;
+mod wrong_clock_tests;
+mod wrong_clocks;
 mod wrong_link;
 mod wrong_node;
 mod wrong_nodes;
@@ -82,6 +98,7 @@ fn main() -> ExitCode {
         telegrams::random(&mut tally);
         links::compare_all(&mut tally);
         nodes::compare_all(&mut tally);
+        clocks::compare_all(&mut tally);
     }
     tally.finish()
 }

@@ -10,7 +10,7 @@ use borrow.Author.Tests.{lt-ltb, le-ltb, le-leb, lt-leb, ne-eqb}
 use Rattle.clock.specs.Choice.{pick}
 use Rattle.clock.specs.Circle.{apartBy}
 use Rattle.clock.specs.Factor.{differenceOf, meanOf}
-use Rattle.clock.specs.Tests.{isAbove, isFollowing, elapsed, failing, standingTests, periodOver}
+use Rattle.clock.specs.Tests.{isAbove, isFollowing, failing, standingTests, periodOver}
 use Rattle.clock.specs.Clocks.{keptBy, forgotten, isolatedBy, inPeriod, synchronised, isolated}
 use Rattle.clock.specs.Updates.{saying, lostBy, pairFailing, periodFailing, allFailing, pairTaken, goneOn, synchronise, resynchronise, heardBy}
 use Rattle.clock.specs.Asking.{countsAt, factorAt, timeAt}
@@ -139,16 +139,11 @@ pub not-before : Not-before
 unfolding factorAt timeAt countsAt pick
 not-before c t h = (rw (ne-eqb (c .state) synchronised h), rw (ne-eqb (c .state) synchronised h))
 
-fallen : (a b : Bool) → b ≡ false → eqb (pick a (pick b 0 103) 102) 0 ≡ false
-unfolding pick
-fallen true b e = rw e
-fallen false b e = refl
-
-counts-none : (c : Clock) (t : LocalTime) → 3001 ≤ elapsed (c .resynchronised) t → countsAt c t ≡ false
+counts-none : (c : Clock) (t : LocalTime) → 3001 ≤ apartBy (t .0) (c .resynchronised .0) → countsAt c t ≡ false
 unfolding countsAt
 counts-none c t h =
     either (λ (b : Bool). b ≡ false) (eqb (c .state) synchronised) _ _
-    (fallen (leb 16 (c .count)) (leb (elapsed (c .resynchronised) t) 3000) (lt-leb (elapsed (c .resynchronised) t) 3000 (omega arith))) refl
+    (either (λ (b : Bool). b ≡ false) (leb 16 (c .count)) _ _ (lt-leb (apartBy (t .0) (c .resynchronised .0)) 3000 (omega arith)) refl) refl
 
 pub never-stale : Never-stale
 unfolding factorAt timeAt pick

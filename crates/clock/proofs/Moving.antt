@@ -463,8 +463,8 @@ wrap-unseen-run j k lk c (x ∷ xs) i r =
 
 module _ (j k : ℕ) (lk : k < 2 ^ 32) (c : Clock) (t : LocalTime) (i : Ranged c) where
   counts-is : countsAt (movedClock j k c) (movedLocal k t) ≡ countsAt c t
-  unfolding countsAt
-  counts-is = rw (standing-moved j k lk (c .count) (c .resynchronised) t (i .resynchronised))
+  unfolding countsAt apartBy distanceOf
+  counts-is = rw (same-minus k (t .0) (c .resynchronised .0) (i .resynchronised))
 
 adjusted-law : (x y t f j k ot of mf tf p q r s u v : ℕ) → x < 2 ^ 32 → y < 2 ^ 32 → ot + p * 2 ^ 32 ≡ t + k → of + q * 2 ^ 32 ≡ f + j → mf + k + r * 2 ^ 32 ≡ of + 2 ^ 32
     → x + s * 2 ^ 32 ≡ ot + mf → tf + u * 2 ^ 32 ≡ t + f → y + v * 2 ^ 32 ≡ tf + j → x ≡ y

@@ -2,10 +2,10 @@
 -- Assumes nothing.
 use mathlib.Core.Bool.{Bool, false}
 use Prim.Native.Nat.{ℕ, _+_, _%_, _^_}
-use lib.Dec.{eqb}
+use lib.Dec.{eqb, leb}
 use Rattle.clock.specs.Choice.{pick}
+use Rattle.clock.specs.Circle.{apartBy}
 use Rattle.clock.specs.Factor.{meanOf}
-use Rattle.clock.specs.Tests.{failing, standingTests}
 use Rattle.clock.specs.Clocks.{synchronised}
 use Rattle.clock.specs.declared.LocalTime.{LocalTime}
 use Rattle.clock.specs.declared.RefTime.{RefTime}
@@ -15,9 +15,10 @@ use Rattle.clock.specs.declared.FactorAsked.the-variants as asked
 use Rattle.clock.specs.declared.TimeAsked.{TimeAsked}
 use Rattle.clock.specs.declared.TimeAsked.the-variants as time
 
--- Sixteen pairs count at a moment: the clock is synchronised (7.4.1.1), has sixteen, and was resynchronised within the 3 s before (7.4.1.5, 7.4.1.6).
+-- Sixteen pairs count at a moment: the clock is synchronised (7.4.1.1), has sixteen (7.4.1.5.1), and the last resynchronisation is at most 3 s away (7.4.1.6). A
+-- moment shortly before it, read off before the message was taken, is as good as one behind it.
 unfoldable pub countsAt : Clock → LocalTime → Bool
-countsAt c t = pick (eqb (c .state) synchronised) (eqb (failing (standingTests (c .count) (c .resynchronised) t)) 0) false
+countsAt c t = pick (eqb (c .state) synchronised) (pick (leb 16 (c .count)) (leb (apartBy (t .0) (c .resynchronised .0)) 3000) false) false
 
 unfoldable pub factorAt : Clock → LocalTime → FactorAsked
 factorAt c t = pick (countsAt c t) (asked.Known (meanOf (c .pairs))) asked.TooFewPairs

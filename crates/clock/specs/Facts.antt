@@ -10,7 +10,7 @@ use lib.IntN.{ℤ, pos, negsuc, _+ℤ_, _*ℤ_}
 use lib.Signed.{_≤ℤ_}
 use Rattle.clock.specs.Circle.{minus, distanceOf, apartBy}
 use Rattle.clock.specs.Factor.{differenceOf, floor16, around, newestOf, meanOf}
-use Rattle.clock.specs.Tests.{isFollowing, elapsed, failing, nearTests, periodTests}
+use Rattle.clock.specs.Tests.{isFollowing, failing, nearTests, periodTests}
 use Rattle.clock.specs.Clocks.{synchronised, isolated}
 use Rattle.clock.specs.Updates.{heardBy}
 use Rattle.clock.specs.Asking.{factorAt, timeAt}
@@ -129,10 +129,10 @@ Isolated-for-good =
 abbrev pub Not-before : Type 0
 Not-before = (c : Clock) (t : LocalTime) → (c .state ≡ synchronised → ⊥) → (factorAt c t ≡ asked.TooFewPairs) × (timeAt c t ≡ time.TooFewPairs)
 
--- .. and once 3 s have passed since the last resynchronisation.
+-- .. and so it does at a moment more than 3 s away from the last resynchronisation.
 abbrev pub Never-stale : Type 0
 Never-stale =
-    (c : Clock) (t : LocalTime) → 3001 ≤ elapsed (c .resynchronised) t → (factorAt c t ≡ asked.TooFewPairs) × (timeAt c t ≡ time.TooFewPairs)
+    (c : Clock) (t : LocalTime) → 3001 ≤ apartBy (t .0) (c .resynchronised .0) → (factorAt c t ≡ asked.TooFewPairs) × (timeAt c t ≡ time.TooFewPairs)
 
 -- ---- The wrap
 

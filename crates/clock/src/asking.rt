@@ -6,18 +6,23 @@ use crate::FactorAsked;
 use crate::LocalTime;
 use crate::RefTime;
 use crate::TimeAsked;
-use crate::checks::standing;
+use crate::checks::MOST_BETWEEN;
+use crate::checks::PAIRS;
+use crate::circle::apart;
 use crate::means::mean;
 use crate::states::SYNCHRONISED;
 
-// Whether sixteen pairs count at a moment: the clock is synchronised, and was resynchronised within the last 3 s.
+// Whether sixteen pairs count at a moment: the clock is synchronised, and its last resynchronisation is at most 3 s away.
 fn counts(c: Clock, local: LocalTime) -> bool
     ensures { λ b. ⌜ b ≡ countsAt c local ⌝ }
 {
     if c.state != SYNCHRONISED {
         return false;
     }
-    standing(c.count, c.resynchronised, local) == 0
+    if c.count < PAIRS {
+        return false;
+    }
+    apart(local.0, c.resynchronised.0) <= MOST_BETWEEN as u64
 }
 
 // Reference Time out of a local time, by the factor: the one place where it is made.
