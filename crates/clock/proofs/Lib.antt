@@ -6,6 +6,7 @@ pub mod Lent
 pub mod Losing
 pub mod Moving
 pub mod Rounding
+pub mod Starting
 pub mod Walk
 pub mod Whole
 pub mod Worked

@@ -15,7 +15,7 @@ use Rattle.clock.specs.Factor.{fronted, differenceOf, spreadOf, floor16,
 use Rattle.clock.specs.Facts.{Every, Timed, after, onward, laterReference, Constant-added, Ranged, movedPair, movedFactor, movedLocal, movedPeriod, movedClock, movedMessage, movedStep, Wrap-unseen, movedHeard, Wrap-unseen-run, movedAsked, Wrap-unseen-asking}
 use Rattle.clock.specs.Tests.{isAbove, isFollowing, elapsed, failing, standingTests, laterTests, pairTests, periodTests, periodOver}
 use Rattle.clock.specs.Clocks.{keptBy, begunAnew, forgotten, isolatedBy, countedOf, pairedBy, synchronisedAt, resynchronisedAt, nextPeriod, countingPeriod, periodAfter, inPeriod}
-use Rattle.clock.specs.Updates.{saying, pairBy, firstTests, joinedBy, anewBy, lostBy, pairFailing, periodFailing, allFailing, pairTaken, goneOn, synchronise, resynchronise, heardBy}
+use Rattle.clock.specs.Updates.{saying, pairBy, firstFailing, joinedBy, anewBy, lostBy, pairFailing, periodFailing, allFailing, pairTaken, goneOn, synchronise, resynchronise, heardBy}
 use Rattle.clock.specs.Asking.{countsAt, factorAt, adjustedBy, adjusting, timeAt}
 use Rattle.clock.specs.declared.LocalTime.{LocalTime}
 use Rattle.clock.specs.declared.Message.{Message}
@@ -39,7 +39,7 @@ minus-law a b l = omega arith
 onward-law : (k a : ℕ) → onward k a + (a + k) / 2 ^ 32 * 2 ^ 32 ≡ a + k
 onward-law k a = omega arith
 
-onward-below : (k a : ℕ) → onward k a < 2 ^ 32
+pub onward-below : (k a : ℕ) → onward k a < 2 ^ 32
 onward-below k a = omega arith
 
 -- two numbers below 2^32 that differ by multiples of it are one
@@ -286,8 +286,8 @@ module _ (j k : ℕ) (lk : k < 2 ^ 32) (c : Clock) (m : Message) (t : LocalTime)
   unfolding fronted
   fronted-in = every-take Timed 16 (new ∷ c .pairs) (new-in, i .pairs)
 
-  first-is : firstTests c′ (movedPair j k new) ≡ firstTests c new
-  unfolding firstTests
+  first-is : firstFailing c′ (movedPair j k new) ≡ firstFailing c new
+  unfolding firstFailing
   first-is = rw (newest-is, later-moved j k lk new (newestOf (c .pairs)) newest-in)
 
   kept-long : length (keptBy (pairedBy c new) m t .pairs) ≡ 16
@@ -319,7 +319,7 @@ module _ (j k : ℕ) (lk : k < 2 ^ 32) (c : Clock) (m : Message) (t : LocalTime)
       rw (above-is, following-is, pair-by-moved j k lk c m, first-is, forgotten-moved j k lk c, kept-moved j k lk c m t)
       (under moving (isAbove (c .last) (m .number)) _ _ _ _
       (under moving (isFollowing (c .last) (m .number)) _ _ _ _
-      (under moving (eqb (firstTests c new) 0) _ _ _ _ joined-is (anew-moved j k lk c m t (firstTests c new))) refl) refl)
+      (under moving (eqb (firstFailing c new) 0) _ _ _ _ joined-is (anew-moved j k lk c m t (firstFailing c new))) refl) refl)
 
   pair-failing-is : pairFailing c′ m′ (movedFactor j k factor) ≡ pairFailing c m factor
   unfolding pairFailing
@@ -372,15 +372,15 @@ module _ (c : Clock) (m : Message) (t : LocalTime) (i : Ranged c) (lm : m .refer
   abbrev Fits : Step → Type 0
   Fits s = Ranged (s .clock)
 
-  kept-fits : (d : Clock) → Ranged d → Ranged (keptBy d m t)
+  pub kept-fits : (d : Clock) → Ranged d → Ranged (keptBy d m t)
   unfolding keptBy
   kept-fits d r = record { sixteen = r .sixteen; pairs = r .pairs; last = lt; resynchronised = r .resynchronised; begun = r .begun; factor = r .factor }
 
-  forgotten-fits : Ranged (forgotten c)
+  pub forgotten-fits : Ranged (forgotten c)
   unfolding forgotten
   forgotten-fits = record { sixteen = i .sixteen; pairs = i .pairs; last = i .last; resynchronised = i .resynchronised; begun = i .begun; factor = i .factor }
 
-  anew-fits : (n : ℕ) → Fits (anewBy c m t n)
+  pub anew-fits : (n : ℕ) → Fits (anewBy c m t n)
   unfolding anewBy keptBy begunAnew
   anew-fits n = record { sixteen = i .sixteen; pairs = i .pairs; last = lt; resynchronised = i .resynchronised; begun = i .begun; factor = i .factor }
 
@@ -388,7 +388,7 @@ module _ (c : Clock) (m : Message) (t : LocalTime) (i : Ranged c) (lm : m .refer
   unfolding lostBy isolatedBy
   lost-fits n = record { sixteen = i .sixteen; pairs = i .pairs; last = i .last; resynchronised = i .resynchronised; begun = i .begun; factor = i .factor }
 
-  paired-fits : Ranged (pairedBy c (pairBy c m))
+  pub paired-fits : Ranged (pairedBy c (pairBy c m))
   unfolding pairedBy
   paired-fits =
       record {
@@ -400,7 +400,7 @@ module _ (c : Clock) (m : Message) (t : LocalTime) (i : Ranged c) (lm : m .refer
         factor = i .factor;
       }
 
-  synchronised-fits : (d : Clock) → Ranged d → Ranged (synchronisedAt d t)
+  pub synchronised-fits : (d : Clock) → Ranged d → Ranged (synchronisedAt d t)
   unfolding synchronisedAt
   synchronised-fits d r = record { sixteen = r .sixteen; pairs = r .pairs; last = r .last; resynchronised = lt; begun = lt; factor = mean-below 0 0 (omega arith) d m t r lm }
 
@@ -420,7 +420,7 @@ module _ (c : Clock) (m : Message) (t : LocalTime) (i : Ranged c) (lm : m .refer
         factor = either (λ (p : Period). p .factor < 2 ^ 32) over _ _ l (r .factor);
       }
 
-  joined-fits : Fits (joinedBy c (pairBy c m) m t)
+  pub joined-fits : Fits (joinedBy c (pairBy c m) m t)
   unfolding joinedBy
   joined-fits =
       either Fits (ltb (keptBy (pairedBy c (pairBy c m)) m t .count) 16) _ _ (kept-fits (pairedBy c (pairBy c m)) paired-fits)
@@ -431,7 +431,7 @@ module _ (c : Clock) (m : Message) (t : LocalTime) (i : Ranged c) (lm : m .refer
   synchronise-fits =
       either Fits (isAbove (c .last) (m .number)) _ _
       (either Fits (isFollowing (c .last) (m .number)) _ _
-      (either Fits (eqb (firstTests c (pairBy c m)) 0) _ _ joined-fits (anew-fits (firstTests c (pairBy c m)))) (kept-fits c i)) forgotten-fits
+      (either Fits (eqb (firstFailing c (pairBy c m)) 0) _ _ joined-fits (anew-fits (firstFailing c (pairBy c m)))) (kept-fits c i)) forgotten-fits
 
   taken-fits : Fits (pairTaken c m t)
   unfolding pairTaken
@@ -441,7 +441,7 @@ module _ (c : Clock) (m : Message) (t : LocalTime) (i : Ranged c) (lm : m .refer
   unfolding goneOn
   gone-on-fits = kept-fits _ (in-period-fits (pairTaken c m t .clock) (periodOver (c .period) t) (meanOf (c .pairs)) taken-fits (mean-below 0 0 (omega arith) c m t i lm))
 
-  resynchronise-fits : Fits (resynchronise c m t)
+  pub resynchronise-fits : Fits (resynchronise c m t)
   unfolding resynchronise
   resynchronise-fits =
       either Fits (eqb (failing (standingTests (c .count) (c .resynchronised) t)) 0) _ _
@@ -449,7 +449,7 @@ module _ (c : Clock) (m : Message) (t : LocalTime) (i : Ranged c) (lm : m .refer
       (either Fits (eqb (allFailing c m t (meanOf (c .pairs))) 0) _ _ gone-on-fits (lost-fits (allFailing c m t (meanOf (c .pairs))))) i)
       (lost-fits (failing (standingTests (c .count) (c .resynchronised) t)))
 
-  heard-fits : Fits (heardBy c m t)
+  pub heard-fits : Fits (heardBy c m t)
   unfolding heardBy
   heard-fits = either Fits (eqb (c .state) 1) _ _ synchronise-fits (either Fits (eqb (c .state) 2) _ _ resynchronise-fits i)
 

@@ -181,7 +181,7 @@ newest-equal d (p ∷ ps) long a = a .0
 
 pub equal-differences : Equal-differences
 unfolding meanOf floor16 around
-equal-differences ps d long l a = rw (newest-equal d ps long a, spread-equal d ps l a) (omega arith)
+equal-differences ps d long a = let l : d < 2 ^ 32 = rw (← newest-equal d ps long a) (difference-small (newestOf ps)) in rw (newest-equal d ps long a, spread-equal d ps l a) (omega arith)
 
 -- ---- what the definitions say in other words
 

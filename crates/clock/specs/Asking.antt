@@ -7,6 +7,7 @@ use Rattle.clock.specs.Choice.{pick}
 use Rattle.clock.specs.Circle.{apartBy}
 use Rattle.clock.specs.Factor.{meanOf}
 use Rattle.clock.specs.Clocks.{synchronised}
+use Rattle.clock.specs.Limits.{pairsOfFactor, localClockMaxReSyncInterval}
 use Rattle.clock.specs.declared.LocalTime.{LocalTime}
 use Rattle.clock.specs.declared.RefTime.{RefTime}
 use Rattle.clock.specs.declared.Clock.{Clock}
@@ -18,8 +19,9 @@ use Rattle.clock.specs.declared.TimeAsked.the-variants as time
 -- Sixteen pairs count at a moment: the clock is synchronised (7.4.1.1), has sixteen (7.4.1.5.1), and the last resynchronisation is at most 3 s away (7.4.1.6). A
 -- moment shortly before it, read off before the message was taken, is as good as one behind it.
 unfoldable pub countsAt : Clock → LocalTime → Bool
-countsAt c t = pick (eqb (c .state) synchronised) (pick (leb 16 (c .count)) (leb (apartBy (t .0) (c .resynchronised .0)) 3000) false) false
+countsAt c t = pick (eqb (c .state) synchronised) (pick (leb pairsOfFactor (c .count)) (leb (apartBy (t .0) (c .resynchronised .0)) localClockMaxReSyncInterval) false) false
 
+-- The factor at a moment, where there is one.
 unfoldable pub factorAt : Clock → LocalTime → FactorAsked
 factorAt c t = pick (countsAt c t) (asked.Known (meanOf (c .pairs))) asked.TooFewPairs
 
@@ -27,9 +29,11 @@ factorAt c t = pick (countsAt c t) (asked.Known (meanOf (c .pairs))) asked.TooFe
 unfoldable pub adjustedBy : LocalTime → ℕ → RefTime
 adjustedBy t factor = record { 0 = (t .0 + factor) % 2 ^ 32 }
 
+-- The Reference Time of a local time by the factor that is known, where one is.
 abbrev pub adjusting : LocalTime → FactorAsked → TimeAsked
 adjusting t (asked.Known factor) = time.At (adjustedBy t factor)
 adjusting t asked.TooFewPairs = time.TooFewPairs
 
+-- The Reference Time at a moment, where there is one.
 unfoldable pub timeAt : Clock → LocalTime → TimeAsked
 timeAt c t = adjusting t (factorAt c t)

@@ -6,13 +6,14 @@ use lib.Dec.{ltb}
 use lib.ListN.{replicate}
 use Rattle.clock.specs.Choice.{pick}
 use Rattle.clock.specs.Factor.{fronted, noPair, meanOf}
+use Rattle.clock.specs.Limits.{pairsOfFactor, timeForLongTermDriftCheck}
 use Rattle.clock.specs.declared.LocalTime.{LocalTime}
 use Rattle.clock.specs.declared.Pair.{Pair}
 use Rattle.clock.specs.declared.Message.{Message}
 use Rattle.clock.specs.declared.Period.{Period}
 use Rattle.clock.specs.declared.Clock.{Clock}
 
--- The states (7.4.1.7.2). A clock whose number is neither of the first two counts as isolated.
+-- The states (7.4.1.7.2). A clock whose state is neither of the first two counts as isolated.
 abbrev pub unsynchronised : ℕ
 unsynchronised = 1
 
@@ -25,7 +26,7 @@ isolated = 3
 -- No message was received, no pair counts.
 unfoldable pub newClock : Clock
 newClock = record {
-  pairs = replicate 16 noPair;
+  pairs = replicate pairsOfFactor noPair;
   count = 0;
   state = unsynchronised;
   last = record { received = 0; number = 0; local = record { 0 = 0 } };
@@ -79,7 +80,7 @@ isolatedBy c = record {
 
 -- One pair more counts, and at most sixteen; a count over sixteen counts as sixteen.
 unfoldable pub countedOf : ℕ → ℕ
-countedOf n = pick (ltb n 16) (n + 1) 16
+countedOf n = pick (ltb n pairsOfFactor) (n + 1) pairsOfFactor
 
 -- A new pair.
 unfoldable pub pairedBy : Clock → Pair → Clock
@@ -116,16 +117,18 @@ resynchronisedAt c t = record {
 
 -- The next period begins where the last ended, with the factor valid there; the message that shows it is its first.
 unfoldable pub nextPeriod : Period → ℕ → Period
-nextPeriod p factor = record { begun = record { 0 = (p .begun .0 + 30000) % 2 ^ 32 }; factor = factor; messages = 1 }
+nextPeriod p factor = record { begun = record { 0 = (p .begun .0 + timeForLongTermDriftCheck) % 2 ^ 32 }; factor = factor; messages = 1 }
 
 -- One message more in the period. The count ends at the greatest number there is.
 unfoldable pub countingPeriod : Period → Period
 countingPeriod p =
     record { begun = p .begun; factor = p .factor; messages = pick (ltb (p .messages) (2 ^ 32 - 1)) (p .messages + 1) (p .messages) }
 
+-- The period after a message: the next one where it is over, else the same.
 unfoldable pub periodAfter : Period → Bool → ℕ → Period
 periodAfter p over factor = pick over (nextPeriod p factor) (countingPeriod p)
 
+-- The clock with its period after a message.
 unfoldable pub inPeriod : Clock → Bool → ℕ → Clock
 inPeriod c over factor = record {
   pairs = c .pairs;

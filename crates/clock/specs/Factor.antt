@@ -5,11 +5,12 @@ use Prim.Native.Nat.{ℕ, _-_, _/_, _%_, _^_}
 use lib.ListN.{take, getD}
 use lib.IntN.{ℤ, pos, negsuc, _+ℤ_}
 use Rattle.clock.specs.Circle.{minus, distanceOf}
+use Rattle.clock.specs.Limits.{pairsOfFactor}
 use Rattle.clock.specs.declared.Pair.{Pair}
 
 -- The new one at the front, and of all at most sixteen: the oldest falls out.
 unfoldable pub fronted : {A : Type 0} → A → List A → List A
-fronted x xs = take 16 (x ∷ xs)
+fronted x xs = take pairsOfFactor (x ∷ xs)
 
 -- Reference time less local time, modulo 2^32.
 unfoldable pub differenceOf : Pair → ℕ

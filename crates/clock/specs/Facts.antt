@@ -1,19 +1,20 @@
 -- What is shown of the clock. proofs/Facts.antt proves each statement under the same name in small letters, and all of them as `facts`.
 -- Assumes nothing.
 use mathlib.Core.Path.{_≡_}
-use mathlib.Core.Bool.{false}
-use mathlib.Core.List.{List, [], _∷_, _++_}
+use mathlib.Core.Bool.{true, false}
+use mathlib.Core.List.{List, [], _∷_, _++_, map}
 use Prim.Native.Nat.{ℕ, zero, suc, _+_, _-_, _/_, _%_, _^_, _<_, _≤_}
 use lib.ListN.{length}
-use mathlib.Core.List.{map}
 use lib.IntN.{ℤ, pos, negsuc, _+ℤ_, _*ℤ_}
 use lib.Signed.{_≤ℤ_}
+use Rattle.clock.specs.Limits.{pairsOfFactor}
+use Rattle.clock.specs.Events as event
 use Rattle.clock.specs.Circle.{minus, distanceOf, apartBy}
 use Rattle.clock.specs.Factor.{differenceOf, floor16, around, newestOf, meanOf}
-use Rattle.clock.specs.Tests.{isFollowing, failing, nearTests, periodTests}
-use Rattle.clock.specs.Clocks.{synchronised, isolated}
-use Rattle.clock.specs.Updates.{heardBy}
-use Rattle.clock.specs.Asking.{factorAt, timeAt}
+use Rattle.clock.specs.Tests.{isAbove, isFollowing, elapsed, failing, standingTests, laterTests, periodOver}
+use Rattle.clock.specs.Clocks.{unsynchronised, synchronised, isolated, newClock}
+use Rattle.clock.specs.Updates.{pairBy, lostBy, pairFailing, goneOn, heardBy}
+use Rattle.clock.specs.Asking.{factorAt, adjustedBy, timeAt}
 use Rattle.clock.specs.Reading.{readBy}
 use Rattle.clock.specs.Plain.{plainFactor, plainTime}
 use Rattle.clock.specs.declared.LocalTime.{LocalTime}
@@ -38,7 +39,7 @@ Every P (x ∷ xs) = P x × Every P xs
 
 -- The mean of sixteen equal differences is that difference.
 abbrev pub Equal-differences : Type 0
-Equal-differences = (ps : List Pair) (d : ℕ) → length ps ≡ 16 → d < 2 ^ 32 → Every (λ (p : Pair). differenceOf p ≡ d) ps → meanOf ps ≡ d
+Equal-differences = (ps : List Pair) (d : ℕ) → length ps ≡ 16 → Every (λ (p : Pair). differenceOf p ≡ d) ps → meanOf ps ≡ d
 
 -- Both times of a pair are numbers of 32 bits, as they are in the code.
 abbrev pub Timed : Pair → Type 0
@@ -71,7 +72,7 @@ left16 (negsuc n) = 15 - n % 16
 abbrev pub Floor : Type 0
 Floor = (z : ℤ) → (left16 z < 16) × (floor16 z *ℤ pos 16 +ℤ pos (left16 z) ≡ z)
 
--- A distance is one: b, and how far a lies after b, is a again on the circle.
+-- Going the distance of a from b on from b leads to a.
 abbrev pub Distance-back : Type 0
 Distance-back = (a b : ℕ) → a < 2 ^ 32 → b < 2 ^ 32 → around (pos b +ℤ distanceOf a b) ≡ a
 
@@ -88,23 +89,37 @@ Only-in-sequence =
 abbrev pub Message-0-unused : Type 0
 Message-0-unused = (l : Last) → isFollowing l 0 ≡ false
 
--- ---- The limits, at both sides of each
+-- ---- The limits, each at both its sides, on a message to a synchronised clock
 
--- 99 ms pass and 100 fail (7.4.3.5).
+-- What comes before the tests of 7.4.3: the clock is synchronised and stands, and the number is above the last.
+pub record Judged (c : Clock) (m : Message) (t : LocalTime) : Type 0 where
+  pub synchronised : c .state ≡ synchronised
+  pub standing : failing (standingTests (c .count) (c .resynchronised) t) ≡ 0
+  pub above : isAbove (c .last) (m .number) ≡ true
+
+-- 3,000 ms since the last resynchronisation stand, 3,001 lose it (7.4.1.6).
+abbrev pub Synchronised-timer : Type 0
+Synchronised-timer =
+    (c : Clock) (m : Message) (t : LocalTime) → c .state ≡ synchronised → pairsOfFactor ≤ c .count
+    → (elapsed (c .resynchronised) t ≤ 3000 → failing (standingTests (c .count) (c .resynchronised) t) ≡ 0)
+    × (3001 ≤ elapsed (c .resynchronised) t → heardBy c m t ≡ lostBy c event.tooLate)
+
+-- A pair of which both times are later passes at 99 ms from the factor, and loses it at 100 (7.4.3.5).
 abbrev pub Short-term : Type 0
 Short-term =
-    (p : Pair) (factor : ℕ)
-    → (apartBy (differenceOf p) factor ≤ 99 → failing (nearTests p factor) ≡ 0) × (100 ≤ apartBy (differenceOf p) factor → failing (nearTests p factor) ≡ 106)
+    (c : Clock) (m : Message) (t : LocalTime) → Judged c m t → isFollowing (c .last) (m .number) ≡ true → failing (laterTests (pairBy c m) (newestOf (c .pairs))) ≡ 0
+    → (apartBy (differenceOf (pairBy c m)) (meanOf (c .pairs)) ≤ 99 → pairFailing c m (meanOf (c .pairs)) ≡ 0)
+    × (100 ≤ apartBy (differenceOf (pairBy c m)) (meanOf (c .pairs)) → heardBy c m t ≡ lostBy c event.shortTerm)
 
--- 30 ms pass and 31 fail, in a period with messages enough (7.4.3.7).
-abbrev pub Long-term : Type 0
-Long-term =
-    (p : Period) (factor : ℕ) → 18 ≤ p .messages
-    → (apartBy factor (p .factor) ≤ 30 → failing (periodTests p factor) ≡ 0) × (31 ≤ apartBy factor (p .factor) → failing (periodTests p factor) ≡ 108)
-
--- 17 messages in a period fail (7.4.3.6).
-abbrev pub Too-few-messages : Type 0
-Too-few-messages = (p : Period) (factor : ℕ) → p .messages ≤ 17 → failing (periodTests p factor) ≡ 107
+-- Where a message passes the tests of its pair, or makes none, and shows the period's end: 17 messages in it lose it (7.4.3.6); with 18 or more, 30 ms pass, and 31 lose
+-- it (7.4.3.7).
+abbrev pub Period-judged : Type 0
+Period-judged =
+    (c : Clock) (m : Message) (t : LocalTime) → Judged c m t → pairFailing c m (meanOf (c .pairs)) ≡ 0 → periodOver (c .period) t ≡ true
+    → (c .period .messages ≤ 17 → heardBy c m t ≡ lostBy c event.tooFew)
+    × (18 ≤ c .period .messages
+    → (apartBy (meanOf (c .pairs)) (c .period .factor) ≤ 30 → heardBy c m t ≡ goneOn c m t (meanOf (c .pairs)))
+    × (31 ≤ apartBy (meanOf (c .pairs)) (c .period .factor) → heardBy c m t ≡ lostBy c event.longTerm))
 
 -- ---- Losing it
 
@@ -119,11 +134,23 @@ abbrev pub after : Clock → List (Message × LocalTime) → Clock
 after c [] = c
 after c (x ∷ xs) = after (heardBy c (x .0) (x .1) .clock) xs
 
--- An isolated clock stays as it is whatever comes, and whoever asks gets 9 ever after.
+-- A clock that is isolated, by whatever number of its state, stays as it is whatever comes, and whoever asks gets 9 ever after.
 abbrev pub Isolated-for-good : Type 0
 Isolated-for-good =
-    (c : Clock) (xs : List (Message × LocalTime)) (t : LocalTime) → c .state ≡ isolated
+    (c : Clock) (xs : List (Message × LocalTime)) (t : LocalTime) → (c .state ≡ unsynchronised → ⊥) → (c .state ≡ synchronised → ⊥)
     → (after c xs ≡ c) × ((plainFactor (factorAt (after c xs) t) .answer ≡ 9) × (plainTime (timeAt (after c xs) t) .answer ≡ 9))
+
+-- ---- When a time is given
+
+-- A clock that is synchronised has sixteen pairs, whatever messages came since it was new.
+abbrev pub Sixteen-when-synchronised : Type 0
+Sixteen-when-synchronised = (xs : List (Message × LocalTime)) → after newClock xs .state ≡ synchronised → after newClock xs .count ≡ pairsOfFactor
+
+-- Synchronised, with sixteen pairs, and at most 3 s away from the last resynchronisation, it gives the time.
+abbrev pub Time-given : Type 0
+Time-given =
+    (c : Clock) (t : LocalTime) → c .state ≡ synchronised → pairsOfFactor ≤ c .count → apartBy (t .0) (c .resynchronised .0) ≤ 3000
+    → timeAt c t ≡ time.At (adjustedBy t (meanOf (c .pairs)))
 
 -- Before it is synchronised a clock answers 9 (7.4.1.1) ..
 abbrev pub Not-before : Type 0
@@ -203,6 +230,13 @@ Wrap-unseen-asking =
     (j k : ℕ) → k < 2 ^ 32 → (c : Clock) (t : LocalTime) → Ranged c
     → timeAt (movedClock j k c) (movedLocal k t) ≡ movedAsked j (timeAt c t)
 
+-- So two nodes whose clocks stand anywhere when they are switched on come to the same state by the same messages, and are given the same Reference Time, moved.
+abbrev pub Wrap-unseen-from-power-on : Type 0
+Wrap-unseen-from-power-on =
+    (j k : ℕ) → k < 2 ^ 32 → (xs : List (Message × LocalTime)) (t : LocalTime) → Every In-range xs
+    → (after newClock (map (movedHeard j k) xs) .state ≡ after newClock xs .state)
+    × (timeAt (after newClock (map (movedHeard j k) xs)) (movedLocal k t) ≡ movedAsked j (timeAt (after newClock xs) t))
+
 -- ---- The bytes
 
 -- The n lowest bytes of a number, lowest first.
@@ -226,14 +260,17 @@ pub record Facts : Type 0 where
   pub distance-back : Distance-back
   pub only-in-sequence : Only-in-sequence
   pub message-0-unused : Message-0-unused
+  pub synchronised-timer : Synchronised-timer
   pub short-term : Short-term
-  pub long-term : Long-term
-  pub too-few-messages : Too-few-messages
+  pub period-judged : Period-judged
   pub lost-isolates : Lost-isolates
   pub isolated-for-good : Isolated-for-good
+  pub sixteen-when-synchronised : Sixteen-when-synchronised
+  pub time-given : Time-given
   pub not-before : Not-before
   pub never-stale : Never-stale
   pub wrap-unseen : Wrap-unseen
   pub wrap-unseen-run : Wrap-unseen-run
   pub wrap-unseen-asking : Wrap-unseen-asking
+  pub wrap-unseen-from-power-on : Wrap-unseen-from-power-on
   pub read-back : Read-back

@@ -2,8 +2,10 @@ pub mod Asking
 pub mod Choice
 pub mod Circle
 pub mod Clocks
+pub mod Events
 pub mod Factor
 pub mod Facts
+pub mod Limits
 pub mod Plain
 pub mod Reading
 pub mod Tests

@@ -1,4 +1,4 @@
--- What a message leaves: the clock, and the event by its number. Events from 101 on name the test that failed.
+-- What a message leaves: the clock, and the event.
 -- Assumes nothing.
 use Prim.Native.Nat.{ℕ}
 use lib.Dec.{eqb, ltb}
@@ -6,6 +6,8 @@ use Rattle.clock.specs.Choice.{pick}
 use Rattle.clock.specs.Factor.{newestOf, meanOf}
 use Rattle.clock.specs.Tests.{isAbove, isFollowing, failing, standingTests, laterTests, pairTests, periodOver, periodTests}
 use Rattle.clock.specs.Clocks.{unsynchronised, synchronised, keptBy, begunAnew, forgotten, isolatedBy, pairedBy, synchronisedAt, resynchronisedAt, inPeriod}
+use Rattle.clock.specs.Limits.{pairsOfFactor}
+use Rattle.clock.specs.Events as event
 use Rattle.clock.specs.declared.LocalTime.{LocalTime}
 use Rattle.clock.specs.declared.Pair.{Pair}
 use Rattle.clock.specs.declared.Message.{Message}
@@ -16,37 +18,38 @@ use Rattle.clock.specs.declared.Step.{Step}
 unfoldable pub pairBy : Clock → Message → Pair
 pairBy c m = record { reference = m .reference; local = c .last .local }
 
+-- A clock, and the event that goes with it.
 abbrev pub saying : ℕ → Clock → Step
-saying event c = record { clock = c; event = event }
+saying n c = record { clock = c; event = n }
 
 -- A failed test while unsynchronised: the pairs begin anew, and the message is kept.
 unfoldable pub anewBy : Clock → Message → LocalTime → ℕ → Step
-anewBy c m t event = saying event (keptBy (begunAnew c) m t)
+anewBy c m t n = saying n (keptBy (begunAnew c) m t)
 
 -- A failed test while synchronised: LostSync (7.4.1.7.3.3).
 unfoldable pub lostBy : Clock → ℕ → Step
-lostBy c event = saying event (isolatedBy c)
+lostBy c n = saying n (isolatedBy c)
 
 -- ---- Synchronise (7.4.2)
 
 -- The tests of 7.4.2.2. The first pair has none before it.
-unfoldable pub firstTests : Clock → Pair → ℕ
-firstTests c p = pick (eqb (c .count) 0) 0 (failing (laterTests p (newestOf (c .pairs))))
+unfoldable pub firstFailing : Clock → Pair → ℕ
+firstFailing c p = pick (eqb (c .count) 0) 0 (failing (laterTests p (newestOf (c .pairs))))
 
--- A pair more, event 1, of which the sixteenth synchronises, event 2.
+-- A pair more, of which the sixteenth synchronises.
 unfoldable pub joinedBy : Clock → Pair → Message → LocalTime → Step
 joinedBy c p m t =
-    pick (ltb (keptBy (pairedBy c p) m t .count) 16) (saying 1 (keptBy (pairedBy c p) m t)) (saying 2 (synchronisedAt (keptBy (pairedBy c p) m t) t))
+    pick (ltb (keptBy (pairedBy c p) m t .count) pairsOfFactor) (saying event.paired (keptBy (pairedBy c p) m t)) (saying event.nowSynchronised (synchronisedAt (keptBy (pairedBy c p) m t) t))
 
--- A number not above the last forgets all, event 101: whether it is a copy, or the reference clock began anew, can't be told. A message that does not follow the
--- last is kept alone, event 0.
+-- A number not above the last forgets all: whether it is a copy, or the reference clock began anew, can't be told. A message that does not follow the
+-- last is kept alone.
 unfoldable pub synchronise : Clock → Message → LocalTime → Step
 synchronise c m t =
     pick (isAbove (c .last) (m .number))
     (pick (isFollowing (c .last) (m .number))
-    (pick (eqb (firstTests c (pairBy c m)) 0) (joinedBy c (pairBy c m) m t) (anewBy c m t (firstTests c (pairBy c m))))
-    (saying 0 (keptBy c m t)))
-    (saying 101 (forgotten c))
+    (pick (eqb (firstFailing c (pairBy c m)) 0) (joinedBy c (pairBy c m) m t) (anewBy c m t (firstFailing c (pairBy c m))))
+    (saying event.kept (keptBy c m t)))
+    (saying event.notAbove (forgotten c))
 
 -- ---- Resynchronise (7.4.3)
 
@@ -62,26 +65,26 @@ periodFailing c t factor = pick (periodOver (c .period) t) (failing (periodTests
 unfoldable pub allFailing : Clock → Message → LocalTime → ℕ → ℕ
 allFailing c m t factor = pick (eqb (pairFailing c m factor) 0) (periodFailing c t factor) (pairFailing c m factor)
 
--- The pair of a message that makes one, event 3; else event 0.
+-- The pair of a message that makes one.
 unfoldable pub pairTaken : Clock → Message → LocalTime → Step
-pairTaken c m t = pick (isFollowing (c .last) (m .number)) (saying 3 (resynchronisedAt (pairedBy c (pairBy c m)) t)) (saying 0 c)
+pairTaken c m t = pick (isFollowing (c .last) (m .number)) (saying event.resynchronised (resynchronisedAt (pairedBy c (pairBy c m)) t)) (saying event.kept c)
 
 -- All tests passed: the pair, the period, and the message is the last.
 unfoldable pub goneOn : Clock → Message → LocalTime → ℕ → Step
 goneOn c m t factor = saying (pairTaken c m t .event) (keptBy (inPeriod (pairTaken c m t .clock) (periodOver (c .period) t) factor) m t)
 
--- First whether the clock still stands; a number not above the last is dropped, event 4; then the tests, with the factor in use before the message.
+-- First whether the clock still stands; a number not above the last is dropped; then the tests, with the factor in use before the message.
 unfoldable pub resynchronise : Clock → Message → LocalTime → Step
 resynchronise c m t =
     pick (eqb (failing (standingTests (c .count) (c .resynchronised) t)) 0)
     (pick (isAbove (c .last) (m .number))
     (pick (eqb (allFailing c m t (meanOf (c .pairs))) 0) (goneOn c m t (meanOf (c .pairs))) (lostBy c (allFailing c m t (meanOf (c .pairs)))))
-    (saying 4 c))
+    (saying event.dropped c))
     (lostBy c (failing (standingTests (c .count) (c .resynchronised) t)))
 
 -- ---- The state machine (7.4.1.7)
 
--- An isolated clock takes no message, event 5.
+-- An isolated clock takes no message.
 unfoldable pub heardBy : Clock → Message → LocalTime → Step
 heardBy c m t =
-    pick (eqb (c .state) unsynchronised) (synchronise c m t) (pick (eqb (c .state) synchronised) (resynchronise c m t) (saying 5 c))
+    pick (eqb (c .state) unsynchronised) (synchronise c m t) (pick (eqb (c .state) synchronised) (resynchronise c m t) (saying event.staysIsolated c))

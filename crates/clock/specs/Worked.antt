@@ -73,7 +73,7 @@ pub record Worked : Type 0 where
   -- message 8 was lost; message 7 comes again
   pub no-pair-behind-a-gap : event (steady 40500 60000 1) 9 100500 41000 ≡ 0
   pub a-number-again-is-dropped : heardBy (steady 40500 60000 1) (message 7 100500) (at 41000) ≡ record { clock = steady 40500 60000 1; event = 4 }
-  -- one difference a millisecond less than the fifteen others: -15 / 16 from there is rounded down to -1, and 15 / 16 to 0
+  -- fifteen differences a millisecond less than the newest: -15 / 16 is rounded down to -1. Fifteen a millisecond more: 15 / 16 is rounded down to 0
   pub rounded-down : meanOf (pairOf 60000 0 ∷ replicate 15 (pairOf 59999 0)) ≡ 59999
   pub rounded-down-from-below : meanOf (pairOf 59999 0 ∷ replicate 15 (pairOf 60000 0)) ≡ 59999
   -- seventeen messages from the first on synchronise, across the wrap; sixteen do not

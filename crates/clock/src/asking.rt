@@ -6,7 +6,7 @@ use crate::FactorAsked;
 use crate::LocalTime;
 use crate::RefTime;
 use crate::TimeAsked;
-use crate::checks::MOST_BETWEEN;
+use crate::checks::LOCAL_CLOCK_MAX_RESYNC_INTERVAL;
 use crate::checks::PAIRS;
 use crate::circle::apart;
 use crate::means::mean;
@@ -22,7 +22,7 @@ fn counts(c: Clock, local: LocalTime) -> bool
     if c.count < PAIRS {
         return false;
     }
-    apart(local.0, c.resynchronised.0) <= MOST_BETWEEN as u64
+    apart(local.0, c.resynchronised.0) <= LOCAL_CLOCK_MAX_RESYNC_INTERVAL as u64
 }
 
 // Reference Time out of a local time, by the factor: the one place where it is made.

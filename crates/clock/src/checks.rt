@@ -1,4 +1,4 @@
-// The tests of 7.4.2.2 and 7.4.3, and of 7.4.1.5 and 7.4.1.6. Each answers 0, or the number of the first that fails.
+// The tests of 7.4.2.2 and 7.4.3, and of 7.4.1.5 and 7.4.1.6. Where several stand in a row, the answer is 0 or the number of the first that fails.
 ghost use mathlib.Core.Path.{_≡_};
 ghost use Rattle.clock.specs.Tests.{isAbove, isFollowing, elapsed, failing, standingTests, laterTests, nearTests, pairTests, periodOver, periodTests};
 use crate::Last;
@@ -20,19 +20,17 @@ use crate::means::difference;
 // How many pairs make a factor, 7.4.4.2.2.
 pub(crate) const PAIRS: u32 = 16;
 
-// LocalClockMaxReSyncInterval, in ms.
-pub(crate) const MOST_BETWEEN: u32 = 3000;
+// In ms, as the next two.
+pub(crate) const LOCAL_CLOCK_MAX_RESYNC_INTERVAL: u32 = 3000;
 
-// MaxClockInaccuracyAfterAdjustFactor, in ms.
-const INACCURACY: u64 = 100;
+const MAX_CLOCK_INACCURACY: u64 = 100;
 
-// TimeForLongTermDriftCheck, in ms.
-pub(crate) const PERIOD: u32 = 30000;
+pub(crate) const TIME_FOR_LONG_TERM_DRIFT_CHECK: u32 = 30000;
 
-// MinNumberofSyncAndRefMsgReceived.
-const LEAST_MESSAGES: u32 = 18;
+// In a period.
+const MIN_NUMBER_OF_MESSAGES: u32 = 18;
 
-// A thousandth of the period, 7.4.3.7.
+// In ms: a thousandth of TIME_FOR_LONG_TERM_DRIFT_CHECK, 7.4.3.7.
 const DRIFT: u64 = 30;
 
 // Whether the number is above that of the message received last, if there was one.
@@ -72,14 +70,14 @@ pub(crate) fn standing(count: u32, resynchronised: LocalTime, local: LocalTime) 
     if count < PAIRS {
         return NO_FACTOR;
     }
-    if passed(resynchronised, local) > MOST_BETWEEN {
+    if passed(resynchronised, local) > LOCAL_CLOCK_MAX_RESYNC_INTERVAL {
         return TOO_LATE;
     }
     0
 }
 
 // 7.4.3.3 and 7.4.3.4, which are 7.4.2.2.1 and 7.4.2.2.2: both times are later than those of the newest pair.
-pub(crate) fn behind(new: Pair, newest: Pair) -> u32
+pub(crate) fn later_test(new: Pair, newest: Pair) -> u32
     ensures { λ n. ⌜ n ≡ failing (laterTests new newest) ⌝ }
 {
     if !later(new.reference.0, newest.reference.0) {
@@ -96,7 +94,7 @@ fn near(new: Pair, factor: u32) -> u32
     ensures { λ n. ⌜ n ≡ failing (nearTests new factor) ⌝ }
 {
     let d = difference(new);
-    if apart(d, factor) < INACCURACY {
+    if apart(d, factor) < MAX_CLOCK_INACCURACY {
         return 0;
     }
     SHORT_TERM
@@ -106,24 +104,25 @@ fn near(new: Pair, factor: u32) -> u32
 pub(crate) fn pair_test(new: Pair, newest: Pair, factor: u32) -> u32
     ensures { λ n. ⌜ n ≡ failing (pairTests new newest factor) ⌝ }
 {
-    let order = behind(new, newest);
+    let order = later_test(new, newest);
     if order != 0 {
         return order;
     }
     near(new, factor)
 }
 
+// Whether the period has ended by this moment.
 pub(crate) fn period_over(period: Period, local: LocalTime) -> bool
     ensures { λ b. ⌜ b ≡ periodOver period local ⌝ }
 {
-    passed(period.begun, local) >= PERIOD
+    passed(period.begun, local) >= TIME_FOR_LONG_TERM_DRIFT_CHECK
 }
 
 // 7.4.3.6 and 7.4.3.7, for a period that is over.
 pub(crate) fn period_test(period: Period, factor: u32) -> u32
     ensures { λ n. ⌜ n ≡ failing (periodTests period factor) ⌝ }
 {
-    if period.messages < LEAST_MESSAGES {
+    if period.messages < MIN_NUMBER_OF_MESSAGES {
         return TOO_FEW;
     }
     if apart(factor, period.factor) > DRIFT {

@@ -1,4 +1,4 @@
-// What a message did, by its number. Those above 100 name the test that failed: it isolates a clock that was synchronised, and another begins with its pairs anew.
+// What a message did, by its number: no pair, a pair, the sixteenth, a pair with all tests passed, dropped, not looked at. Those from 101 on name the test that failed.
 pub const KEPT: u32 = 0;
 
 pub const PAIRED: u32 = 1;

@@ -20,9 +20,9 @@ use crate::TimeAsked;
 // Answers: done, bytes that are no message, and fewer than sixteen pairs.
 const DONE: u32 = 0;
 
-const NOT_ELEVEN: u32 = 110;
+const NOT_ELEVEN: u32 = 201;
 
-const OTHER_PREFIX: u32 = 111;
+const OTHER_PREFIX: u32 = 202;
 
 const TOO_FEW_PAIRS: u32 = 9;
 

@@ -1,7 +1,7 @@
 // A Sync and Reference Time message from its bytes, 6.3.1.9.
 ghost use mathlib.Core.Path.{_≡_};
 ghost use Prim.Native.Nat.{_<_, _≤_, _+_};
-ghost use lib.ListN.{length, getD};
+ghost use lib.ListN.{length};
 ghost use Rattle.clock.specs.Reading.{lowestFirst, prefixed, readBy};
 use crate::Message;
 use crate::Reading;
@@ -10,6 +10,7 @@ use crate::RefTime;
 // How many bytes a message has.
 const BYTES: usize = 11;
 
+// A byte as a wider number.
 fn wide(x: u8) -> u32
     ensures { λ n. ⌜ (n ≡ x) × (n < 256) ⌝ }
 {
@@ -41,6 +42,7 @@ fn has_prefix(bytes: &[u8]) -> bool
     bytes[2] == 0
 }
 
+// What a run of bytes is.
 pub fn read_message(bytes: &[u8]) -> Reading
     ensures { λ r. ⌜ r ≡ readBy (now (bytes .entry)) ⌝ }
 {

@@ -68,6 +68,7 @@ fn moved(base: u32, m: i64) -> u32
     std::num::wrapping_add_u32(base, low)
 }
 
+// The newest difference, moved by the mean distance from it.
 pub(crate) fn mean(pairs: [Pair; 16]) -> u32
     ensures { λ r. ⌜ r ≡ meanOf pairs ⌝ }
 {

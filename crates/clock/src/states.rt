@@ -1,4 +1,4 @@
-// The clock in its states, 7.4.1.7.2, and what a message leaves of it. A zeroed clock is in none of them.
+// The clock, its states (7.4.1.7.2), and what a message leaves of it. A state that has no name here counts as isolated, so that a zeroed clock is never a new one.
 ghost use mathlib.Core.Path.{_≡_};
 ghost use Rattle.clock.specs.Clocks.{newClock, keptBy, pairedBy, begunAnew, forgotten, isolatedBy, synchronisedAt, nextPeriod, countingPeriod, periodAfter, inPeriod, resynchronisedAt, countedOf};
 use crate::Clock;
@@ -9,7 +9,7 @@ use crate::Pair;
 use crate::Period;
 use crate::RefTime;
 use crate::checks::PAIRS;
-use crate::checks::PERIOD;
+use crate::checks::TIME_FOR_LONG_TERM_DRIFT_CHECK;
 use crate::means::mean;
 use crate::means::shifted;
 
@@ -135,7 +135,7 @@ pub(crate) fn synchronised(c: Clock, local: LocalTime) -> Clock
 fn next_period(period: Period, factor: u32) -> Period
     ensures { λ p. ⌜ p ≡ nextPeriod period factor ⌝ }
 {
-    let begun = std::num::wrapping_add_u32(period.begun.0, PERIOD);
+    let begun = std::num::wrapping_add_u32(period.begun.0, TIME_FOR_LONG_TERM_DRIFT_CHECK);
     Period {
         begun: LocalTime(begun),
         factor,

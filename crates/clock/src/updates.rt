@@ -1,7 +1,7 @@
 // What a message does, by value: Synchronise, 7.4.2, and Resynchronise, 7.4.3.
 ghost use mathlib.Core.Path.{_≡_};
 ghost use Rattle.clock.specs.Factor.{newestOf};
-ghost use Rattle.clock.specs.Updates.{pairBy, saying, anewBy, lostBy, firstTests, synchronise, pairFailing, periodFailing, allFailing, joinedBy, pairTaken, goneOn, resynchronise, heardBy};
+ghost use Rattle.clock.specs.Updates.{pairBy, anewBy, lostBy, firstFailing, synchronise, pairFailing, periodFailing, allFailing, joinedBy, pairTaken, goneOn, resynchronise, heardBy};
 use crate::Clock;
 use crate::LocalTime;
 use crate::Message;
@@ -9,8 +9,8 @@ use crate::Pair;
 use crate::Step;
 use crate::checks::PAIRS;
 use crate::checks::above;
-use crate::checks::behind;
 use crate::checks::follows;
+use crate::checks::later_test;
 use crate::checks::pair_test;
 use crate::checks::period_over;
 use crate::checks::period_test;
@@ -44,6 +44,7 @@ fn pair_of(c: Clock, message: Message) -> Pair
     Pair { reference, local }
 }
 
+// The newest pair.
 fn newest(pairs: [Pair; 16]) -> Pair
     ensures { λ p. ⌜ p ≡ newestOf pairs ⌝ }
 {
@@ -68,15 +69,15 @@ fn lost(c: Clock, event: u32) -> Step
 }
 
 // 7.4.2.2: the tests of a pair while unsynchronised. The first pair has none before it.
-fn first_test(c: Clock, new: Pair) -> u32
-    ensures { λ n. ⌜ n ≡ firstTests c new ⌝ }
+fn first_failing(c: Clock, new: Pair) -> u32
+    ensures { λ n. ⌜ n ≡ firstFailing c new ⌝ }
 {
     if c.count == 0 {
         return 0;
     }
     let pairs = c.pairs;
     let before = newest(pairs);
-    behind(new, before)
+    later_test(new, before)
 }
 
 // A pair more while unsynchronised: the sixteenth synchronises.
@@ -98,6 +99,7 @@ fn joined(c: Clock, new: Pair, message: Message, local: LocalTime) -> Step
     }
 }
 
+// 7.4.2: the clock is not yet synchronised.
 fn synchronise(c: Clock, message: Message, local: LocalTime) -> Step
     ensures { λ h. ⌜ h ≡ synchronise c message local ⌝ }
 {
@@ -113,7 +115,7 @@ fn synchronise(c: Clock, message: Message, local: LocalTime) -> Step
         return Step { clock, event: KEPT };
     }
     let new = pair_of(c, message);
-    let failed = first_test(c, new);
+    let failed = first_failing(c, new);
     if failed != 0 {
         return anew(c, message, local, failed);
     }
@@ -143,6 +145,7 @@ fn period_failing(c: Clock, local: LocalTime, factor: u32) -> u32
     period_test(c.period, factor)
 }
 
+// The first test that fails, in the order of the paper.
 fn all_failing(c: Clock, message: Message, local: LocalTime, factor: u32) -> u32
     ensures { λ n. ⌜ n ≡ allFailing c message local factor ⌝ }
 {
@@ -186,6 +189,7 @@ fn gone_on(c: Clock, message: Message, local: LocalTime, factor: u32) -> Step
     }
 }
 
+// 7.4.3: the clock is synchronised.
 fn resynchronise(c: Clock, message: Message, local: LocalTime) -> Step
     ensures { λ h. ⌜ h ≡ resynchronise c message local ⌝ }
 {

@@ -29,22 +29,22 @@ returns-2 c = rw (← c .before .before .before .before .above .ensures, ← c .
 pair-of-requires : tie.Need-pair-of-requires
 pair-of-requires c κs = search needs
 
-first-test-requires : tie.Need-first-test-requires
-first-test-requires c κs = search needs
+first-failing-requires : tie.Need-first-failing-requires
+first-failing-requires c κs = search needs
 
 anew-requires : tie.Need-anew-requires
 anew-requires c κs = search needs
 
 returns-3 : tie.Need-returns-3
 unfolding synchronise
-returns-3 c = rw (← c .before .before .before .before .before .before .before .above .ensures, ← c .before .before .before .before .before .follows .ensures, ← c .before .before .before .pair-of .ensures, ← c .before .before .first-test .ensures, ← c .anew .ensures) (search (tests, needs) depth 16)
+returns-3 c = rw (← c .before .before .before .before .before .before .before .above .ensures, ← c .before .before .before .before .before .follows .ensures, ← c .before .before .before .pair-of .ensures, ← c .before .before .first-failing .ensures, ← c .anew .ensures) (search (tests, needs) depth 16)
 
 joined-requires : tie.Need-joined-requires
 joined-requires c κs = search needs
 
 returns-4 : tie.Need-returns-4
 unfolding synchronise
-returns-4 c = rw (← c .before .before .before .before .before .before .before .above .ensures, ← c .before .before .before .before .before .follows .ensures, ← c .before .before .before .pair-of .ensures, ← c .before .before .first-test .ensures, ← c .joined .ensures) (search (tests, needs) depth 16)
+returns-4 c = rw (← c .before .before .before .before .before .before .before .above .ensures, ← c .before .before .before .before .before .follows .ensures, ← c .before .before .before .pair-of .ensures, ← c .before .before .first-failing .ensures, ← c .joined .ensures) (search (tests, needs) depth 16)
 
 pub synchronise-spec : {M : Type 1} → statement M
 synchronise-spec =
@@ -57,7 +57,7 @@ synchronise-spec =
     kept-requires
     returns-2
     pair-of-requires
-    first-test-requires
+    first-failing-requires
     anew-requires
     returns-3
     joined-requires

@@ -1,9 +1,9 @@
--- `clock::checks::behind` meets its contract: the tests in their order.
+-- `clock::checks::later_test` meets its contract: the tests in their order.
 -- Assumes nothing.
 use borrow.Author.Needs.{needs}
 use Rattle.clock.specs.Choice.{tests}
-use Rattle.clock.proofs.checks.behind.Statement.{statement}
-use Rattle.clock.proofs.checks.behind.Tie as tie
+use Rattle.clock.proofs.checks.later_test.Statement.{statement}
+use Rattle.clock.proofs.checks.later_test.Tie as tie
 
 later-requires : tie.Need-later-requires
 later-requires c κs = search needs
@@ -20,5 +20,5 @@ returns-2 c = rw (← c .before .before .before .later .ensures, ← c .before .
 returns-3 : tie.Need-returns-3
 returns-3 c = rw (← c .before .before .before .later .ensures, ← c .before .later2 .ensures) (search (tests, needs) depth 16)
 
-pub behind-spec : {M : Type 1} → statement M
-behind-spec = tie.close (tie.spec later-requires returns later-requires-2 returns-2 returns-3)
+pub later-test-spec : {M : Type 1} → statement M
+later-test-spec = tie.close (tie.spec later-requires returns later-requires-2 returns-2 returns-3)
