@@ -15,27 +15,31 @@ static void lost(card *c)
     board_lost(c);
 }
 
-uint32_t card_received(card *c, const uint8_t *net, size_t length, uj_local_time local)
+uint32_t card_received(card *c, uint32_t command, const uint8_t *net, size_t length, uj_local_time local)
 {
-    const uj_reading r = uj_clock_read(net, length);
-    uint32_t answer;
+    uj_reading r;
+    uint32_t event;
 
-    /* Other multicast messages are not the clock's, and their fields are not to be used. */
+    /* Only the command tells: Safe Time Layer Startup has the same form. */
+    if (command != UJ_CLOCK_COMMAND)
+        return UJ_BAD_VALUE;
+    r = uj_clock_read(net, length);
     if (r.answer != UJ_DONE)
         return r.answer;
-    answer = uj_clock_message(&c->clock, r.message, local);
+    event = uj_clock_message(&c->clock, r.message, local);
     /* A failed test isolates a clock that was synchronised. One that was not only begins anew. */
-    if (answer >= UJ_CLOCK_FAILED && c->clock.state == UJ_CLOCK_ISOLATED)
+    if (event >= UJ_CLOCK_FAILED && c->clock.state == UJ_CLOCK_ISOLATED)
         lost(c);
-    return answer;
+    return event;
 }
 
 uj_reference card_time(card *c, uj_local_time local)
 {
+    static const uj_reference none = {UJ_TOO_FEW_PAIRS, {0}};
     const uj_reference r = uj_clock_reference_time(&c->clock, local);
 
-    /* Synchronised, and no time: the Synchronised Timer has run out, which is LostSync too (7.4.1.7.3.3). The next message will isolate the clock. */
+    /* Synchronised, and no time: the Synchronised Timer has run out, which is LostSync too (7.4.1.7.3.3). */
     if (r.answer != UJ_DONE && c->clock.state == UJ_CLOCK_SYNCHRONISED)
         lost(c);
-    return r;
+    return c->lost ? none : r;
 }

@@ -1,6 +1,6 @@
 /*
  * The firmware of a card that has no reference clock, over the local clock of include/ujamniq.h: the part to copy from. It makes the clock at power-on, reads
- * the bytes of each message, looks at every answer, and says when the clock is lost. Clause numbers are those of SUBSET-056.
+ * the bytes of each message, looks at every event and answer, and says when the clock is lost. Clause numbers are those of SUBSET-056.
  *
  * What a board has to give stands at the end.
  */
@@ -18,12 +18,12 @@ typedef struct card {
 /* At power-on, and at no other time: a clock that is isolated stays so. */
 void card_start(card *c);
 
-/* The net data of a multicast telegram that passed its check, and the card's counter at its reception. Gives back what the message did, or why the bytes are
- * no Sync and Reference Time message. */
-uint32_t card_received(card *c, const uint8_t *net, size_t length, uj_local_time local);
+/* A multicast telegram from the reference clock that passed its check and is no copy: its command, its net data, and the card's counter at its reception.
+ * Gives back what the message did, or why the bytes are no Sync and Reference Time message; UJ_BAD_VALUE where the command is another's. */
+uint32_t card_received(card *c, uint32_t command, const uint8_t *net, size_t length, uj_local_time local);
 
 /* The Reference Time of this moment. Ask regularly, also where nobody needs the time: nothing else notices that no message comes. A counter
- * that was read just before the last message was taken is good. */
+ * that was read just before the last message was taken is good. Once the clock is lost there is no time any more. */
 uj_reference card_time(card *c, uj_local_time local);
 
 /* LostSync: disconnects all logical connections of the node, multicast included (7.4.1.7.4.4). It comes once. */

@@ -14,7 +14,7 @@ static card board;
 enum { INTERVAL = 500 };
 static uint32_t now, due, number, carried;
 
-/* What a fault in the example, or another answer than the scene says, comes to. */
+/* What a fault in the example, or another event or answer than the scene says, comes to. */
 static void must(int holds, const char *what)
 {
     if (holds)
@@ -51,13 +51,13 @@ static int distance(uint32_t a, uint32_t b)
     return a - b < 0x80000000 ? (int)(a - b) : -(int)(b - a);
 }
 
-/* The answers, in the order of UJ_CLOCK_KEPT .. UJ_CLOCK_STAYS_ISOLATED. Of the tests this card fails one. */
-static const char *answer_name(uint32_t answer)
+/* The events, in the order of UJ_CLOCK_KEPT .. UJ_CLOCK_STAYS_ISOLATED. Of the tests this card fails one. */
+static const char *event_name(uint32_t event)
 {
     static const char *const names[] = {"kept, and no pair", "one pair more", "the sixteenth pair: synchronised", "one pair more: resynchronised", "dropped",
                                         "not looked at: isolated"};
 
-    return answer < sizeof names / sizeof *names ? names[answer] : "more than 3 s since the last resynchronisation: isolated";
+    return event < sizeof names / sizeof *names ? names[event] : "more than 3 s since the last resynchronisation: isolated";
 }
 
 static void trace_time(void)
@@ -95,21 +95,21 @@ static void on_bus(uint8_t net[11])
     due += INTERVAL;
 }
 
-/* So many messages come in, all of which must have that answer. One line tells of them, with the time of the last. */
-static void hear(uint32_t count, uint32_t answer)
+/* So many messages come in, all of which must have that event. One line tells of them, with the time of the last. */
+static void hear(uint32_t count, uint32_t event)
 {
     for (uint32_t i = 0; i < count; i++) {
         uint8_t net[11];
         on_bus(net);
         now += delay();
-        must(card_received(&board, net, sizeof net, local_time()) == answer, "a message has another answer");
+        must(card_received(&board, UJ_CLOCK_COMMAND, net, sizeof net, local_time()) == event, "a message has another event");
     }
     trace_time();
     if (count == 1)
         printf("message %u", (unsigned)(number - 1));
     else
         printf("messages %u to %u", (unsigned)(number - count), (unsigned)(number - 1));
-    printf(": answer %u, %s\n", (unsigned)answer, answer_name(answer));
+    printf(": event %u, %s\n", (unsigned)event, event_name(event));
     trace_lost();
 }
 
@@ -158,7 +158,7 @@ static void scene_run(void)
     on_bus(lost);
     hear(1, UJ_CLOCK_KEPT);
     hear(1, UJ_CLOCK_RESYNCHRONISED);
-    must(card_received(&board, other, sizeof other, local_time()) == UJ_CLOCK_NOT_ELEVEN, "another multicast message is taken for the clock's");
+    must(card_received(&board, 0xA4, other, sizeof other, local_time()) == UJ_BAD_VALUE, "another multicast message is taken for the clock's");
     printf("\n4. A period of 30 s ends. The factor may have moved by 30 ms in it (7.4.3.7).\n\n");
     hear(52, UJ_CLOCK_RESYNCHRONISED);
     printf("%20sit has moved by %d ms, of which the drift is -6\n", "", distance(board.clock.period.factor, factor));
@@ -184,7 +184,7 @@ static void scene_silence(void)
 int main(void)
 {
     printf("A card whose counter gains 0.02 %%, and a reference clock that sends every %d ms. Messages are up to 3 ms under way.\n", INTERVAL);
-    printf("The time is in ms since power-on, the local time is the card's counter. Messages in a row with one answer have one line, that of the last.\n");
+    printf("The time is in ms since power-on, the local time is the card's counter. Messages in a row with one event have one line, that of the last.\n");
     printf("\n%6s  %10s\n", "time", "local time");
     scene_synchronise();
     scene_run();

@@ -54,6 +54,7 @@ extern "C" {
 #define UJ_ENDED 8u           /* calls: the record is finally closed */
 #define UJ_WRONG_PHASE 3u     /* calls: open on a record not closed, send on one not open, close on a closed one */
 #define UJ_BAD_VALUE 5u       /* idle time, command, new_setup, reason, or length of net data or text not allowed */
+#define UJ_TOO_FEW_PAIRS 9u   /* the local clock: fewer than 16 pairs count, so that there is no factor and no Reference Time */
 #define UJ_FAILED 100u        /* the check: this number or a greater one means failed */
 
 /* Which answers there are beside UJ_DONE, in their order:
@@ -63,8 +64,8 @@ extern "C" {
  *   uj_open, uj_close, uj_send                                                1, 4, 7, 2, 8, 3, 5
  *   uj_received                                                               1, 4, 7, 6, 2, 8, 5
  *   uj_tick                                                                   1, 4, 7, 2, 8
- *   uj_clock_read                                                             110, 111, see there
- *   uj_clock_factor, uj_clock_reference_time                                  9, see there
+ *   uj_clock_factor, uj_clock_reference_time                                  9
+ *   uj_clock_read                                                             201, 202, see there
  * The other functions refuse nothing. */
 
 /* New set-up desired (5.2.5.9, byte 3), the type of a disconnect: whether the connection may be set up anew. */
@@ -312,16 +313,18 @@ uj_outcome uj_tick(uj_record *table, size_t count, uj_head head, uint64_t time, 
  * The local clock (SUBSET-056 version 3.0.0, sections 6.3, 7.2 and 7.4): Reference Time on a node that has no reference clock. It stands beside the calls: it
  * knows no table and no telegram, and no call looks at it.
  *
- * The clock is yours, one for the node. Make it with uj_clock_new at power-on, lend it to uj_clock_message for each Sync and Reference Time message, in the
- * order in which they came, and ask it with uj_clock_reference_time. The bytes of a message are the net data of a multicast telegram, which you have
- * checked: whether they are genuine is not asked here. A `uj_clock *` is readable (for uj_clock_message: writable) and aligned as C aligns a uj_clock, and
+ * The clock is yours, one for the node. Make it with uj_clock_new at power-on, lend it to uj_clock_message for each Sync and Reference Time message, each
+ * once and in the order in which they came, and ask it with uj_clock_reference_time. A message is the net data of a multicast telegram with
+ * UJ_CLOCK_COMMAND from the reference clock, which you have checked and of which you have suppressed the copies (SUBSET-057, 6.1.1.9): whether it is
+ * genuine is not asked here, and a copy makes an unsynchronised clock begin anew. A `uj_clock *` is readable (for uj_clock_message: writable) and aligned as C aligns a uj_clock, and
  * until the call returns no other thread and no interrupt changes it. Copies are good: nothing in it points anywhere.
  *
  * Both times are counted in milliseconds and wrap at 2^32. Each has a type of its own, so that none stands in for the other. Only
  * uj_clock_reference_time makes a Reference Time out of a local time.
  *
  * Nothing runs by itself. That the bus is silent is noticed by asking alone: ask regularly, well within 3 s. An answer UJ_TOO_FEW_PAIRS from a clock whose
- * state is UJ_CLOCK_SYNCHRONISED means that synchronisation is lost (7.4.1.7.3.3), and the next message isolates the clock.
+ * state is UJ_CLOCK_SYNCHRONISED means that synchronisation is lost (7.4.1.7.3.3): the next message that is received after that moment isolates the clock.
+ * Take the messages that wait before you ask.
  */
 
 /* Local_Clock_Time: the reading of this node's own free running counter (3.4.7.2). */
@@ -377,8 +380,8 @@ typedef struct uj_clock {
 uj_clock uj_clock_new(void);
 
 /* Further answers of uj_clock_read. */
-#define UJ_CLOCK_NOT_ELEVEN 110u   /* no Sync and Reference Time message: it has not 11 bytes */
-#define UJ_CLOCK_OTHER_PREFIX 111u /* no Sync and Reference Time message: it does not begin with 3, 0, 0 */
+#define UJ_CLOCK_NOT_ELEVEN 201u   /* no Sync and Reference Time message: it has not 11 bytes */
+#define UJ_CLOCK_OTHER_PREFIX 202u /* no Sync and Reference Time message of this version: it does not begin with 3, 0, 0 */
 
 /* What a run of bytes is. When `answer` is not UJ_DONE, the message's fields are 0 and it must not be used. */
 typedef struct uj_reading {
@@ -386,7 +389,11 @@ typedef struct uj_reading {
     uj_sync_message message;
 } uj_reading;
 
-/* Reads a message from its bytes: 3, 0, 0, then number and Reference Time of four bytes each, lowest byte first (6.3.1.9, 6.1.1.1). */
+/* The command of a multicast telegram that carries a Sync and Reference Time message (6.1.1.3). */
+#define UJ_CLOCK_COMMAND 0xA1u
+
+/* Reads a message from its bytes: 3, 0, 0, then number and Reference Time of four bytes each, lowest byte first (6.3.1.9, 6.1.1.1). Give it the net data of
+ * telegrams with UJ_CLOCK_COMMAND alone: a Safe Time Layer Startup message (A4h, 6.6.1.5) has the same form, and the bytes do not tell. */
 uj_reading uj_clock_read(const uint8_t *bytes, size_t length);
 
 /* What a message did: events, which are no answers and refuse nothing. From UJ_CLOCK_FAILED on it is the test that failed. A clock that was synchronised is
@@ -397,10 +404,10 @@ uj_reading uj_clock_read(const uint8_t *bytes, size_t length);
 #define UJ_CLOCK_RESYNCHRONISED 3u        /* one pair more, and all tests passed */
 #define UJ_CLOCK_DROPPED 4u               /* synchronised, and the number is not above the last: not looked at, the clock is as it was */
 #define UJ_CLOCK_STAYS_ISOLATED 5u        /* isolated: not looked at, the clock is as it was */
-#define UJ_CLOCK_FAILED 100u              /* a greater number: a test failed */
+#define UJ_CLOCK_FAILED 101u              /* this number or a greater one: a test failed */
 #define UJ_CLOCK_NOT_ABOVE 101u           /* not synchronised, and the number is not above the last: no message counts as received any more */
 #define UJ_CLOCK_NO_FACTOR 102u           /* synchronised with fewer than 16 pairs, which no message brings about (7.4.1.5.1) */
-#define UJ_CLOCK_TOO_LATE 103u            /* more than 3 s since the last resynchronisation (7.4.1.6) */
+#define UJ_CLOCK_TOO_LATE 103u            /* more than 3 s since the last resynchronisation (7.4.1.6), or the counter went back */
 #define UJ_CLOCK_REFERENCE_NOT_LATER 104u /* the Reference Time is not later than that of the newest pair (7.4.2.2.1, 7.4.3.3) */
 #define UJ_CLOCK_LOCAL_NOT_LATER 105u     /* the same of the local time (7.4.2.2.2, 7.4.3.4) */
 #define UJ_CLOCK_SHORT_TERM 106u          /* 100 ms or more away from the factor (7.4.3.5) */
@@ -408,14 +415,11 @@ uj_reading uj_clock_read(const uint8_t *bytes, size_t length);
 #define UJ_CLOCK_LONG_TERM 108u           /* the factor moved by more than 30 ms in the 30 s period that ended (7.4.3.7) */
 
 /* Takes a message that was received at `local`, for the clock where it stands, and returns the event. Look at clock->state after each: where it has become
- * UJ_CLOCK_ISOLATED, all logical connections of the node are to be disconnected, multicast included (7.4.1.7.4.4). */
+ * UJ_CLOCK_ISOLATED, all logical connections of the node are to be disconnected, multicast included (7.4.1.7.4.4): finally, with reason 22h (5.3.1.3). */
 uint32_t uj_clock_message(uj_clock *clock, uj_sync_message message, uj_local_time local);
 
-/* A further answer: fewer than 16 pairs count, so that there is no factor and no Reference Time (7.4.4.2.2, 7.4.1.1). The last in the order. */
-#define UJ_TOO_FEW_PAIRS 9u
-
 /* The factor and the Reference Time at the moment `local`. Answers UJ_DONE or UJ_TOO_FEW_PAIRS. Pairs count on a synchronised clock alone, and at moments
- * that are at most 3 s away from the last resynchronisation: so no time is given that is older than 3 s. A counter that was read just before the last
+ * that are at most 3 s away from the last resynchronisation: so no time is given that is older than 3 s (but see docs/TRUST.md on a silence of 49.7 days). A counter that was read just before the last
  * message was taken is good. When `answer` is not UJ_DONE, the other part is 0 and must not be used. The clock stays as it is. */
 typedef struct uj_factor {
     uint32_t answer;

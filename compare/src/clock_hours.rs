@@ -1,6 +1,7 @@
 //! Long steady runs, told one by one: a message every 500 ms, read from its bytes, and a local clock that goes a little fast or slow. 0.05 % is compensated for
 //! as long as the run lasts, 0.2 % is found out (SUBSET-056, 7.2.1.4). Each program has a clock of its own, and the two go side by side.
 
+use crate::clock::Heard;
 use crate::clock_border;
 use crate::clock_bus::Running;
 use crate::clock_case::{Library, Program, SECOND};
@@ -115,11 +116,11 @@ fn compensated(rate: i64, tally: &mut Tally) {
     );
 }
 
-/// A rate that is not: found out within two periods (7.4.3.7.2.1).
+/// A rate that is not: found out by the long term drift, within two periods (7.4.3.7.2.1).
 fn found_out(rate: i64, tally: &mut Tally) {
     let went = run(rate, tally);
     let (answer, after) = went.lost.unwrap_or_default();
-    let failed = answer >= 100 && after <= 2 * TIME_FOR_LONG_TERM_DRIFT_CHECK;
+    let failed = answer == Heard::LongTerm as u32 && after <= 2 * TIME_FOR_LONG_TERM_DRIFT_CHECK;
     tally.hold(failed, || format!("{}: not found out, {:?}", name(rate), went.lost));
     let Went { furthest, .. } = went;
     println!(

@@ -5,8 +5,8 @@ use crate::library_clock::{Message, Reading, RefTime};
 /// What a run of bytes is that is no message, by its number in the interface.
 #[derive(Clone, Copy)]
 enum NoMessage {
-    NotEleven = 110,
-    OtherPrefix = 111,
+    NotEleven = 201,
+    OtherPrefix = 202,
 }
 
 /// The prefix X, Y and Z.

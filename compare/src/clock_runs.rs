@@ -164,7 +164,7 @@ pub fn random(tally: &mut Tally) {
     let often = [answer_name(1, 1), answer_name(2, 3), answer_name(2, 0), ASKED[0].into()];
     shares.demand(1000, &often, tally);
     tally.told(&format!(
-        "local clocks: {messages} random messages, and the clock asked about nine moments before and after each (seed {SEED:#x}); of these"
+        "local clocks: {messages} random messages, and the clock asked about ten moments before and after each (seed {SEED:#x}); of these"
     ));
     shares.tell();
 }

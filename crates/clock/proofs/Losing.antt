@@ -8,7 +8,7 @@ use native.Mathlib.Omega.{arith}
 use lib.Dec.{eqb, leb, ltb}
 use borrow.Author.Tests.{lt-ltb, le-ltb, le-leb, lt-leb, ne-eqb, eqb-true, ltb-true, ltb-false}
 use Rattle.clock.specs.Choice.{pick}
-use Rattle.clock.specs.Circle.{apartBy}
+use Rattle.clock.specs.Circle.{laterThan, apartBy}
 use Rattle.clock.specs.Factor.{differenceOf, newestOf, meanOf}
 use Rattle.clock.specs.Tests.{isAbove, isFollowing, elapsed, failing, standingTests, laterTests, nearTests, periodTests, periodOver}
 use Rattle.clock.specs.Clocks.{newClock, keptBy, begunAnew, forgotten, isolatedBy, countedOf, pairedBy, synchronisedAt, resynchronisedAt, inPeriod, synchronised, isolated}
@@ -136,7 +136,10 @@ module _ (c : Clock) (m : Message) (t : LocalTime) (j : Judged c m t) where
   pair-near : isFollowing (c .last) (m .number) ≡ true → failing (laterTests (pairBy c m) (newestOf (c .pairs))) ≡ 0
       → pairFailing c m (meanOf (c .pairs)) ≡ failing (nearTests (pairBy c m) (meanOf (c .pairs)))
   unfolding pairFailing pick
-  pair-near f l = rw f (sym (all-held _ _ (failing (nearTests (pairBy c m) (meanOf (c .pairs)))) l))
+  pair-near f l =
+      rw f
+      (sym (all-held (laterThan (pairBy c m .reference .0) (newestOf (c .pairs) .reference .0)) (laterThan (pairBy c m .local .0) (newestOf (c .pairs) .local .0))
+      (failing (nearTests (pairBy c m) (meanOf (c .pairs)))) l))
 
   pair-first : (n : ℕ) → (n ≡ 0 → ⊥) → pairFailing c m (meanOf (c .pairs)) ≡ n → allFailing c m t (meanOf (c .pairs)) ≡ n
   unfolding allFailing pick
