@@ -144,7 +144,7 @@ static void scene_synchronise(void)
 
 static void scene_run(void)
 {
-    static const uint8_t other[14] = {0};
+    static const uint8_t startup[] = {3, 0, 0, 33, 0, 0, 0, 0, 0, 0, 0}; /* 6.6.1.5: the same form, another command */
     const uint32_t factor = board.clock.period.factor;
     uint8_t lost[11];
 
@@ -158,7 +158,7 @@ static void scene_run(void)
     on_bus(lost);
     hear(1, UJ_CLOCK_KEPT);
     hear(1, UJ_CLOCK_RESYNCHRONISED);
-    must(card_received(&board, 0xA4, other, sizeof other, local_time()) == UJ_BAD_VALUE, "another multicast message is taken for the clock's");
+    must(card_received(&board, 0xA4, startup, sizeof startup, local_time()) == UJ_BAD_VALUE, "another multicast message is taken for the clock's");
     printf("\n4. A period of 30 s ends. The factor may have moved by 30 ms in it (7.4.3.7).\n\n");
     hear(52, UJ_CLOCK_RESYNCHRONISED);
     printf("%20sit has moved by %d ms, of which the drift is -6\n", "", distance(board.clock.period.factor, factor));
