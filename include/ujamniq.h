@@ -316,8 +316,10 @@ uj_outcome uj_tick(uj_record *table, size_t count, uj_head head, uint64_t time, 
  * The clock is yours, one for the node. Make it with uj_clock_new at power-on, lend it to uj_clock_message for each Sync and Reference Time message, each
  * once and in the order in which they came, and ask it with uj_clock_reference_time. A message is the net data of a multicast telegram with
  * UJ_CLOCK_COMMAND from the reference clock, which you have checked and of which you have suppressed the copies (SUBSET-057, 6.1.1.9): whether it is
- * genuine is not asked here, and a copy makes an unsynchronised clock begin anew. A `uj_clock *` is readable (for uj_clock_message: writable) and aligned as C aligns a uj_clock, and
- * until the call returns no other thread and no interrupt changes it. Copies are good: nothing in it points anywhere.
+ * genuine is not asked here, and a copy makes an unsynchronised clock begin anew.
+ *
+ * A `uj_clock *` is readable (for uj_clock_message: writable) and aligned as C aligns a uj_clock, and until the call returns no other thread and no
+ * interrupt changes it. A clock may be copied: nothing in it points anywhere.
  *
  * Both times are counted in milliseconds and wrap at 2^32. Each has a type of its own, so that none stands in for the other. Only
  * uj_clock_reference_time makes a Reference Time out of a local time.
@@ -419,8 +421,8 @@ uj_reading uj_clock_read(const uint8_t *bytes, size_t length);
 uint32_t uj_clock_message(uj_clock *clock, uj_sync_message message, uj_local_time local);
 
 /* The factor and the Reference Time at the moment `local`. Answers UJ_DONE or UJ_TOO_FEW_PAIRS. Pairs count on a synchronised clock alone, and at moments
- * that are at most 3 s away from the last resynchronisation: so no time is given that is older than 3 s (but see docs/TRUST.md on a silence of 49.7 days). A counter that was read just before the last
- * message was taken is good. When `answer` is not UJ_DONE, the other part is 0 and must not be used. The clock stays as it is. */
+ * that are at most 3 s away from the last resynchronisation: so no time is given that is older than 3 s (but see docs/TRUST.md on a silence of 49.7 days).
+ * A counter that was read just before the last message was taken is good. When `answer` is not UJ_DONE, the other part is 0 and must not be used. The clock stays as it is. */
 typedef struct uj_factor {
     uint32_t answer;
     uint32_t factor; /* Reference Time less local time, modulo 2^32 */

@@ -12,7 +12,7 @@ use Rattle.clock.specs.Circle.{laterThan, apartBy}
 use Rattle.clock.specs.Factor.{differenceOf, newestOf, meanOf}
 use Rattle.clock.specs.Tests.{isAbove, isFollowing, elapsed, failing, standingTests, laterTests, nearTests, periodTests, periodOver}
 use Rattle.clock.specs.Clocks.{newClock, keptBy, begunAnew, forgotten, isolatedBy, countedOf, pairedBy, synchronisedAt, resynchronisedAt, inPeriod, synchronised, isolated}
-use Rattle.clock.specs.Updates.{saying, pairBy, firstFailing, joinedBy, anewBy, lostBy, pairFailing, periodFailing, allFailing, pairTaken, goneOn, synchronise, resynchronise, heardBy}
+use Rattle.clock.specs.Updates.{saying, pairBy, firstFailing, joinedBy, anewBy, lostBy, testsOfPair, testsOfPeriod, resynchroniseTests, pairTaken, goneOn, synchronise, resynchronise, heardBy}
 use Rattle.clock.specs.Asking.{countsAt, factorAt, timeAt}
 use Rattle.clock.specs.Facts.{Only-in-sequence, Message-0-unused, Judged, Synchronised-timer, Short-term, Period-judged, Lost-isolates, after, Isolated-for-good, Sixteen-when-synchronised, Time-given, Not-before, Never-stale}
 use Rattle.clock.specs.declared.LocalTime.{LocalTime}
@@ -22,7 +22,7 @@ use Rattle.clock.specs.declared.RefTime.{RefTime}
 use Rattle.clock.specs.declared.Message.{Message}
 use Rattle.clock.specs.declared.Clock.{Clock}
 use Rattle.clock.specs.declared.Step.{Step}
-use Rattle.clock.proofs.Cases.{before-none, all-held, drift-held, drift-failed}
+use Rattle.clock.proofs.Cases.{before-none, all-held, failing-join, pair-numbered, drift-held, drift-failed}
 
 -- a property of both sides of a choice is a property of the choice
 pub either : {A : Type 0} (P : A → Type 0) (b : Bool) (x y : A) → P x → P y → P (pick b x y)
@@ -44,7 +44,7 @@ module _ (c : Clock) (n : ℕ) (t : LocalTime) (out : isFollowing (c .last) n �
   abbrev unpaired : RefTime → ℕ → Step
   unpaired r factor =
       pick (isAbove (c .last) n)
-      (pick (eqb (periodFailing c t factor) 0) (saying 0 (keptBy (inPeriod c (periodOver (c .period) t) factor) (told r) t)) (lostBy c (periodFailing c t factor)))
+      (pick (eqb (failing (testsOfPeriod c t factor)) 0) (saying 0 (keptBy (inPeriod c (periodOver (c .period) t) factor) (told r) t)) (lostBy c (failing (testsOfPeriod c t factor))))
       (saying 4 c)
 
   abbrev left : RefTime → Step
@@ -56,7 +56,7 @@ module _ (c : Clock) (n : ℕ) (t : LocalTime) (out : isFollowing (c .last) n �
       (saying 5 c))
 
   heard-out : (r : RefTime) → heardBy c (told r) t ≡ left r
-  unfolding heardBy synchronise resynchronise allFailing pairFailing goneOn pairTaken pick
+  unfolding heardBy synchronise resynchronise goneOn pairTaken pick
   heard-out r = rw out
 
   left-alike : (r s : RefTime) → left r ≡ left s
@@ -70,7 +70,7 @@ module _ (c : Clock) (n : ℕ) (t : LocalTime) (out : isFollowing (c .last) n �
       (either (λ (h : Step). h .clock .pairs ≡ c .pairs) (eqb (c .state) 2) _ _
       (either (λ (h : Step). h .clock .pairs ≡ c .pairs) (eqb (failing (standingTests (c .count) (c .resynchronised) t)) 0) _ _
       (either (λ (h : Step). h .clock .pairs ≡ c .pairs) (isAbove (c .last) n) _ _
-      (either (λ (h : Step). h .clock .pairs ≡ c .pairs) (eqb (periodFailing c t (meanOf (c .pairs))) 0) _ _ refl refl) refl) refl) refl)
+      (either (λ (h : Step). h .clock .pairs ≡ c .pairs) (eqb (failing (testsOfPeriod c t (meanOf (c .pairs)))) 0) _ _ refl refl) refl) refl) refl)
 
 pub only-in-sequence : Only-in-sequence
 only-in-sequence c n r s t out =
@@ -99,7 +99,7 @@ unfolding resynchronise
 resynchronise-lost c m t =
     either Lost (eqb (failing (standingTests (c .count) (c .resynchronised) t)) 0) _ _
     (either Lost (isAbove (c .last) (m .number)) _ _
-    (either Lost (eqb (allFailing c m t (meanOf (c .pairs))) 0) _ _ (gone-on-is c m t (meanOf (c .pairs))) (lost-is c (allFailing c m t (meanOf (c .pairs))))) (λ h. absurd (omega arith)))
+    (either Lost (eqb (failing (resynchroniseTests c m t)) 0) _ _ (gone-on-is c m t (meanOf (c .pairs))) (lost-is c (failing (resynchroniseTests c m t)))) (λ h. absurd (omega arith)))
     (lost-is c (failing (standingTests (c .count) (c .resynchronised) t)))
 
 by-state : (c : Clock) (m : Message) (t : LocalTime) → c .state ≡ synchronised → heardBy c m t ≡ resynchronise c m t
@@ -120,34 +120,39 @@ synchronised-timer c m t e enough = (
 
 -- a message that is judged: what the tests answer decides
 module _ (c : Clock) (m : Message) (t : LocalTime) (j : Judged c m t) where
-  judged-is : heardBy c m t ≡ pick (eqb (allFailing c m t (meanOf (c .pairs))) 0) (goneOn c m t (meanOf (c .pairs))) (lostBy c (allFailing c m t (meanOf (c .pairs))))
+  judged-is : heardBy c m t ≡ pick (eqb (failing (resynchroniseTests c m t)) 0) (goneOn c m t (meanOf (c .pairs))) (lostBy c (failing (resynchroniseTests c m t)))
   unfolding resynchronise pick
   judged-is = by-state c m t (j .synchronised) ∙ rw (j .standing, j .above)
 
-  judged-lost : (n : ℕ) → (n ≡ 0 → ⊥) → allFailing c m t (meanOf (c .pairs)) ≡ n → heardBy c m t ≡ lostBy c n
+  judged-lost : (n : ℕ) → (n ≡ 0 → ⊥) → failing (resynchroniseTests c m t) ≡ n → heardBy c m t ≡ lostBy c n
   unfolding pick
   judged-lost n z e = judged-is ∙ rw (e, ne-eqb n 0 z)
 
-  judged-on : allFailing c m t (meanOf (c .pairs)) ≡ 0 → heardBy c m t ≡ goneOn c m t (meanOf (c .pairs))
+  judged-on : failing (resynchroniseTests c m t) ≡ 0 → heardBy c m t ≡ goneOn c m t (meanOf (c .pairs))
   unfolding pick
   judged-on e = judged-is ∙ rw e
 
   -- where both times are later, the short-term test decides on the pair
   pair-near : isFollowing (c .last) (m .number) ≡ true → failing (laterTests (pairBy c m) (newestOf (c .pairs))) ≡ 0
-      → pairFailing c m (meanOf (c .pairs)) ≡ failing (nearTests (pairBy c m) (meanOf (c .pairs)))
-  unfolding pairFailing pick
+      → failing (testsOfPair c m (meanOf (c .pairs))) ≡ failing (nearTests (pairBy c m) (meanOf (c .pairs)))
+  unfolding pick
   pair-near f l =
       rw f
       (sym (all-held (laterThan (pairBy c m .reference .0) (newestOf (c .pairs) .reference .0)) (laterThan (pairBy c m .local .0) (newestOf (c .pairs) .local .0))
       (failing (nearTests (pairBy c m) (meanOf (c .pairs)))) l))
 
-  pair-first : (n : ℕ) → (n ≡ 0 → ⊥) → pairFailing c m (meanOf (c .pairs)) ≡ n → allFailing c m t (meanOf (c .pairs)) ≡ n
-  unfolding allFailing pick
-  pair-first n z e = rw (e, ne-eqb n 0 z)
+  tests-joined : failing (resynchroniseTests c m t) ≡ pick (eqb (failing (testsOfPair c m (meanOf (c .pairs)))) 0) (failing (testsOfPeriod c t (meanOf (c .pairs)))) (failing (testsOfPair c m (meanOf (c .pairs))))
+  tests-joined =
+      failing-join (testsOfPair c m (meanOf (c .pairs))) (testsOfPeriod c t (meanOf (c .pairs)))
+      (pair-numbered (isFollowing (c .last) (m .number)) (pairBy c m) (newestOf (c .pairs)) (meanOf (c .pairs)))
 
-  period-next : pairFailing c m (meanOf (c .pairs)) ≡ 0 → periodOver (c .period) t ≡ true → allFailing c m t (meanOf (c .pairs)) ≡ failing (periodTests (c .period) (meanOf (c .pairs)))
-  unfolding allFailing periodFailing pick
-  period-next e o = rw (e, o)
+  pair-first : (n : ℕ) → (n ≡ 0 → ⊥) → failing (testsOfPair c m (meanOf (c .pairs))) ≡ n → failing (resynchroniseTests c m t) ≡ n
+  unfolding pick
+  pair-first n z e = tests-joined ∙ rw (e, ne-eqb n 0 z)
+
+  period-next : failing (testsOfPair c m (meanOf (c .pairs))) ≡ 0 → periodOver (c .period) t ≡ true → failing (resynchroniseTests c m t) ≡ failing (periodTests (c .period) (meanOf (c .pairs)))
+  unfolding pick
+  period-next e o = tests-joined ∙ rw (e, o)
 
 near-held : (p : Pair) (f : ℕ) → apartBy (differenceOf p) f ≤ 99 → failing (nearTests p f) ≡ 0
 unfolding pick
@@ -272,7 +277,7 @@ module _ (c : Clock) (m : Message) (t : LocalTime) (full : c .count ≡ 16) wher
   resynchronise-full =
       either (λ (h : Step). Full (h .clock)) (eqb (failing (standingTests (c .count) (c .resynchronised) t)) 0) _ _
       (either (λ (h : Step). Full (h .clock)) (isAbove (c .last) (m .number)) _ _
-      (either (λ (h : Step). Full (h .clock)) (eqb (allFailing c m t (meanOf (c .pairs))) 0) _ _ (gone-full (meanOf (c .pairs))) (lost-full (allFailing c m t (meanOf (c .pairs))))) (λ f. full))
+      (either (λ (h : Step). Full (h .clock)) (eqb (failing (resynchroniseTests c m t)) 0) _ _ (gone-full (meanOf (c .pairs))) (lost-full (failing (resynchroniseTests c m t)))) (λ f. full))
       (lost-full (failing (standingTests (c .count) (c .resynchronised) t)))
 
 heard-full : (c : Clock) (m : Message) (t : LocalTime) (u v : Bool) → eqb (c .state) 1 ≡ u → eqb (c .state) 2 ≡ v → Full c → Full (pick u (synchronise c m t) (pick v (resynchronise c m t) (saying 5 c)) .clock)

@@ -3,7 +3,7 @@
 -- Assumes nothing.
 use mathlib.Core.Path.{_≡_, refl, sym, ap, _∙_}
 use mathlib.Core.Bool.{Bool, true, false}
-use mathlib.Core.List.{List, [], _∷_, map}
+use mathlib.Core.List.{List, [], _∷_, _++_, map}
 use Prim.Native.Nat.{ℕ, zero, suc, _+_, _-_, _*_, _/_, _^_, _<_}
 use native.Mathlib.Omega.{arith}
 use lib.Dec.{eqb, ltb}
@@ -15,7 +15,7 @@ use Rattle.clock.specs.Factor.{fronted, differenceOf, spreadOf, floor16,
 use Rattle.clock.specs.Facts.{Every, Timed, after, onward, laterReference, Constant-added, Ranged, movedPair, movedFactor, movedLocal, movedPeriod, movedClock, movedMessage, movedStep, Wrap-unseen, movedHeard, Wrap-unseen-run, movedAsked, Wrap-unseen-asking}
 use Rattle.clock.specs.Tests.{isAbove, isFollowing, elapsed, failing, standingTests, laterTests, pairTests, periodTests, periodOver}
 use Rattle.clock.specs.Clocks.{keptBy, begunAnew, forgotten, isolatedBy, countedOf, pairedBy, synchronisedAt, resynchronisedAt, nextPeriod, countingPeriod, periodAfter, inPeriod}
-use Rattle.clock.specs.Updates.{saying, pairBy, firstFailing, joinedBy, anewBy, lostBy, pairFailing, periodFailing, allFailing, pairTaken, goneOn, synchronise, resynchronise, heardBy}
+use Rattle.clock.specs.Updates.{saying, pairBy, firstFailing, joinedBy, anewBy, lostBy, testsOfPair, testsOfPeriod, resynchroniseTests, pairTaken, goneOn, synchronise, resynchronise, heardBy}
 use Rattle.clock.specs.Asking.{countsAt, factorAt, adjustedBy, adjusting, timeAt}
 use Rattle.clock.specs.declared.LocalTime.{LocalTime}
 use Rattle.clock.specs.declared.Message.{Message}
@@ -27,6 +27,7 @@ use Rattle.clock.specs.declared.TimeAsked.the-variants as time
 use Rattle.clock.specs.declared.Pair.{Pair}
 use Rattle.clock.proofs.Circling.{minus-small}
 use Rattle.clock.proofs.Averages.{around-add, around-small}
+use Rattle.clock.proofs.Cases.{asked-or-none, failing-join, pair-numbered}
 use Rattle.clock.proofs.Losing.{either}
 
 -- ---- on the circle
@@ -321,17 +322,24 @@ module _ (j k : ℕ) (lk : k < 2 ^ 32) (c : Clock) (m : Message) (t : LocalTime)
       (under moving (isFollowing (c .last) (m .number)) _ _ _ _
       (under moving (eqb (firstFailing c new) 0) _ _ _ _ joined-is (anew-moved j k lk c m t (firstFailing c new))) refl) refl)
 
-  pair-failing-is : pairFailing c′ m′ (movedFactor j k factor) ≡ pairFailing c m factor
-  unfolding pairFailing
-  pair-failing-is = rw (following-is, pair-by-moved j k lk c m, newest-is, pair-tests-moved j k lk new (newestOf (c .pairs)) factor new-in newest-in mean-below)
+  pair-tests-is : failing (testsOfPair c′ m′ (movedFactor j k factor)) ≡ failing (testsOfPair c m factor)
+  pair-tests-is =
+      sym (asked-or-none (isFollowing (c′ .last) (m .number)) (pairTests (pairBy c′ m′) (newestOf (c′ .pairs)) (movedFactor j k factor)))
+      ∙ rw (following-is, pair-by-moved j k lk c m, newest-is, pair-tests-moved j k lk new (newestOf (c .pairs)) factor new-in newest-in mean-below)
+      (asked-or-none (isFollowing (c .last) (m .number)) (pairTests new (newestOf (c .pairs)) factor))
 
-  period-failing-is : periodFailing c′ t′ (movedFactor j k factor) ≡ periodFailing c t factor
-  unfolding periodFailing
-  period-failing-is = rw (over-moved j k lk (c .period) t (i .begun), period-tests-moved j k lk (c .period) factor (i .factor))
+  period-tests-is : failing (testsOfPeriod c′ t′ (movedFactor j k factor)) ≡ failing (testsOfPeriod c t factor)
+  period-tests-is =
+      sym (asked-or-none (periodOver (c′ .period) t′) (periodTests (c′ .period) (movedFactor j k factor)))
+      ∙ rw (over-moved j k lk (c .period) t (i .begun), period-tests-moved j k lk (c .period) factor (i .factor))
+      (asked-or-none (periodOver (c .period) t) (periodTests (c .period) factor))
 
-  failing-is : allFailing c′ m′ t′ (movedFactor j k factor) ≡ allFailing c m t factor
-  unfolding allFailing
-  failing-is = rw (pair-failing-is, period-failing-is)
+  failing-is : failing (testsOfPair c′ m′ (movedFactor j k factor) ++ testsOfPeriod c′ t′ (movedFactor j k factor)) ≡ failing (resynchroniseTests c m t)
+  failing-is =
+      failing-join (testsOfPair c′ m′ (movedFactor j k factor)) (testsOfPeriod c′ t′ (movedFactor j k factor))
+      (pair-numbered (isFollowing (c′ .last) (m .number)) (pairBy c′ m′) (newestOf (c′ .pairs)) (movedFactor j k factor))
+      ∙ rw (pair-tests-is, period-tests-is)
+      (sym (failing-join (testsOfPair c m factor) (testsOfPeriod c t factor) (pair-numbered (isFollowing (c .last) (m .number)) new (newestOf (c .pairs)) factor)))
 
   resynchronised-is : resynchronisedAt (pairedBy c′ (movedPair j k new)) t′ ≡ movedClock j k (resynchronisedAt (pairedBy c new) t)
   resynchronised-is = rw (paired-moved j k lk c new) again
@@ -357,7 +365,7 @@ module _ (j k : ℕ) (lk : k < 2 ^ 32) (c : Clock) (m : Message) (t : LocalTime)
       rw (standing-moved j k lk (c .count) (c .resynchronised) t (i .resynchronised), above-is, mean-is, failing-is)
       (under moving (eqb (failing (standingTests (c .count) (c .resynchronised) t)) 0) _ _ _ _
       (under moving (isAbove (c .last) (m .number)) _ _ _ _
-      (under moving (eqb (allFailing c m t factor) 0) _ _ _ _ gone-on-is (lost-moved j k lk c (allFailing c m t factor))) refl)
+      (under moving (eqb (failing (resynchroniseTests c m t)) 0) _ _ _ _ gone-on-is (lost-moved j k lk c (failing (resynchroniseTests c m t)))) refl)
       (lost-moved j k lk c (failing (standingTests (c .count) (c .resynchronised) t))))
 
   heard-is : heardBy c′ m′ t′ ≡ moving (heardBy c m t)
@@ -446,7 +454,7 @@ module _ (c : Clock) (m : Message) (t : LocalTime) (i : Ranged c) (lm : m .refer
   resynchronise-fits =
       either Fits (eqb (failing (standingTests (c .count) (c .resynchronised) t)) 0) _ _
       (either Fits (isAbove (c .last) (m .number)) _ _
-      (either Fits (eqb (allFailing c m t (meanOf (c .pairs))) 0) _ _ gone-on-fits (lost-fits (allFailing c m t (meanOf (c .pairs))))) i)
+      (either Fits (eqb (failing (resynchroniseTests c m t)) 0) _ _ gone-on-fits (lost-fits (failing (resynchroniseTests c m t)))) i)
       (lost-fits (failing (standingTests (c .count) (c .resynchronised) t)))
 
   pub heard-fits : Fits (heardBy c m t)

@@ -13,7 +13,7 @@ use Rattle.clock.specs.Choice.{pick}
 use Rattle.clock.specs.Factor.{fronted, newestOf, noPair, meanOf}
 use Rattle.clock.specs.Tests.{isAbove, isFollowing, failing, standingTests}
 use Rattle.clock.specs.Clocks.{newClock, keptBy, begunAnew, forgotten, isolatedBy, countedOf, pairedBy, synchronisedAt, resynchronisedAt, inPeriod}
-use Rattle.clock.specs.Updates.{saying, pairBy, firstFailing, joinedBy, anewBy, lostBy, allFailing, pairTaken, goneOn, synchronise, resynchronise, heardBy}
+use Rattle.clock.specs.Updates.{saying, pairBy, firstFailing, joinedBy, anewBy, lostBy, resynchroniseTests, pairTaken, goneOn, synchronise, resynchronise, heardBy}
 use Rattle.clock.specs.Asking.{timeAt}
 use Rattle.clock.specs.Facts.{Every, Timed, Ranged, In-range, after, onward, movedPair, movedHeard, movedLocal, movedClock, Wrap-unseen-from-power-on}
 use Rattle.clock.specs.declared.LocalTime.{LocalTime}
@@ -115,7 +115,7 @@ module _ (c : Clock) (m : Message) (t : LocalTime) (few : c .count ≤ 16) where
   resynchronise-few =
       either Few (eqb (failing (standingTests (c .count) (c .resynchronised) t)) 0) _ _
       (either Few (isAbove (c .last) (m .number)) _ _
-      (either Few (eqb (allFailing c m t (meanOf (c .pairs))) 0) _ _ (gone-few (meanOf (c .pairs))) (lost-few (allFailing c m t (meanOf (c .pairs))))) few)
+      (either Few (eqb (failing (resynchroniseTests c m t)) 0) _ _ (gone-few (meanOf (c .pairs))) (lost-few (failing (resynchroniseTests c m t)))) few)
       (lost-few (failing (standingTests (c .count) (c .resynchronised) t)))
 
 -- ---- the number of a message, for clocks alike

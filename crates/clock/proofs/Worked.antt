@@ -6,12 +6,12 @@ use Rattle.clock.specs.Circle.{minus, signedOf, distanceOf, laterThan, a
 use Rattle.clock.specs.Factor.{fronted, differenceOf, spreadOf, floor16, around, meanOf}
 use Rattle.clock.specs.Tests.{isAbove, isFollowing, elapsed, periodOver}
 use Rattle.clock.specs.Clocks.{newClock, keptBy, begunAnew, forgotten, isolatedBy, countedOf, pairedBy, synchronisedAt, resynchronisedAt, nextPeriod, countingPeriod, periodAfter, inPeriod}
-use Rattle.clock.specs.Updates.{pairBy, anewBy, lostBy, firstFailing, joinedBy, synchronise, pairFailing, periodFailing, allFailing, pairTaken, goneOn, resynchronise, heardBy}
+use Rattle.clock.specs.Updates.{pairBy, anewBy, lostBy, firstFailing, joinedBy, synchronise, pairTaken, goneOn, resynchronise, heardBy}
 use Rattle.clock.specs.Asking.{countsAt, factorAt, adjustedBy, timeAt}
 use Rattle.clock.specs.Worked.{Worked}
 
 pub worked : Worked
-unfolding pick minus signedOf distanceOf laterThan apartBy fronted differenceOf spreadOf floor16 around meanOf isAbove isFollowing elapsed periodOver newClock keptBy begunAnew forgotten isolatedBy countedOf pairedBy synchronisedAt resynchronisedAt nextPeriod countingPeriod periodAfter inPeriod pairBy anewBy lostBy firstFailing joinedBy synchronise pairFailing periodFailing allFailing pairTaken goneOn resynchronise heardBy countsAt factorAt adjustedBy timeAt
+unfolding pick minus signedOf distanceOf laterThan apartBy fronted differenceOf spreadOf floor16 around meanOf isAbove isFollowing elapsed periodOver newClock keptBy begunAnew forgotten isolatedBy countedOf pairedBy synchronisedAt resynchronisedAt nextPeriod countingPeriod periodAfter inPeriod pairBy anewBy lostBy firstFailing joinedBy synchronise pairTaken goneOn resynchronise heardBy countsAt factorAt adjustedBy timeAt
 worked =
     record {
       short-term-99-passes = refl;

@@ -13,7 +13,7 @@ use Rattle.clock.specs.Circle.{minus, distanceOf, apartBy}
 use Rattle.clock.specs.Factor.{differenceOf, floor16, around, newestOf, meanOf}
 use Rattle.clock.specs.Tests.{isAbove, isFollowing, elapsed, failing, standingTests, laterTests, periodOver}
 use Rattle.clock.specs.Clocks.{unsynchronised, synchronised, isolated, newClock}
-use Rattle.clock.specs.Updates.{pairBy, lostBy, pairFailing, goneOn, heardBy}
+use Rattle.clock.specs.Updates.{pairBy, testsOfPair, lostBy, goneOn, heardBy}
 use Rattle.clock.specs.Asking.{factorAt, adjustedBy, timeAt}
 use Rattle.clock.specs.Reading.{readBy}
 use Rattle.clock.specs.Plain.{plainFactor, plainTime}
@@ -108,14 +108,14 @@ Synchronised-timer =
 abbrev pub Short-term : Type 0
 Short-term =
     (c : Clock) (m : Message) (t : LocalTime) → Judged c m t → isFollowing (c .last) (m .number) ≡ true → failing (laterTests (pairBy c m) (newestOf (c .pairs))) ≡ 0
-    → (apartBy (differenceOf (pairBy c m)) (meanOf (c .pairs)) ≤ 99 → pairFailing c m (meanOf (c .pairs)) ≡ 0)
+    → (apartBy (differenceOf (pairBy c m)) (meanOf (c .pairs)) ≤ 99 → failing (testsOfPair c m (meanOf (c .pairs))) ≡ 0)
     × (100 ≤ apartBy (differenceOf (pairBy c m)) (meanOf (c .pairs)) → heardBy c m t ≡ lostBy c event.shortTerm)
 
 -- Where a message passes the tests of its pair, or makes none, and shows the period's end: 17 messages in it lose it (7.4.3.6); with 18 or more, 30 ms pass, and 31 lose
 -- it (7.4.3.7).
 abbrev pub Period-judged : Type 0
 Period-judged =
-    (c : Clock) (m : Message) (t : LocalTime) → Judged c m t → pairFailing c m (meanOf (c .pairs)) ≡ 0 → periodOver (c .period) t ≡ true
+    (c : Clock) (m : Message) (t : LocalTime) → Judged c m t → failing (testsOfPair c m (meanOf (c .pairs))) ≡ 0 → periodOver (c .period) t ≡ true
     → (c .period .messages ≤ 17 → heardBy c m t ≡ lostBy c event.tooFew)
     × (18 ≤ c .period .messages
     → (apartBy (meanOf (c .pairs)) (c .period .factor) ≤ 30 → heardBy c m t ≡ goneOn c m t (meanOf (c .pairs)))

@@ -1,5 +1,7 @@
 -- What a message leaves: the clock, and the event.
 -- Assumes nothing.
+use mathlib.Core.Bool.{Bool}
+use mathlib.Core.List.{List, [], _++_}
 use Prim.Native.Nat.{ℕ}
 use lib.Dec.{eqb, ltb}
 use Rattle.clock.specs.Choice.{pick}
@@ -54,16 +56,16 @@ synchronise c m t =
 -- ---- Resynchronise (7.4.3)
 
 -- 7.4.3.3 to 7.4.3.5, where the message makes a pair.
-unfoldable pub pairFailing : Clock → Message → ℕ → ℕ
-pairFailing c m factor = pick (isFollowing (c .last) (m .number)) (failing (pairTests (pairBy c m) (newestOf (c .pairs)) factor)) 0
+abbrev pub testsOfPair : Clock → Message → ℕ → List (Bool × ℕ)
+testsOfPair c m factor = pick (isFollowing (c .last) (m .number)) (pairTests (pairBy c m) (newestOf (c .pairs)) factor) []
 
 -- 7.4.3.6 and 7.4.3.7, where the period is over.
-unfoldable pub periodFailing : Clock → LocalTime → ℕ → ℕ
-periodFailing c t factor = pick (periodOver (c .period) t) (failing (periodTests (c .period) factor)) 0
+abbrev pub testsOfPeriod : Clock → LocalTime → ℕ → List (Bool × ℕ)
+testsOfPeriod c t factor = pick (periodOver (c .period) t) (periodTests (c .period) factor) []
 
--- The first that fails, in the order of the paper.
-unfoldable pub allFailing : Clock → Message → LocalTime → ℕ → ℕ
-allFailing c m t factor = pick (eqb (pairFailing c m factor) 0) (periodFailing c t factor) (pairFailing c m factor)
+-- All of them in the order of the paper, with the factor in use before the message.
+abbrev pub resynchroniseTests : Clock → Message → LocalTime → List (Bool × ℕ)
+resynchroniseTests c m t = testsOfPair c m (meanOf (c .pairs)) ++ testsOfPeriod c t (meanOf (c .pairs))
 
 -- The pair of a message that makes one.
 unfoldable pub pairTaken : Clock → Message → LocalTime → Step
@@ -73,12 +75,12 @@ pairTaken c m t = pick (isFollowing (c .last) (m .number)) (saying event.resynch
 unfoldable pub goneOn : Clock → Message → LocalTime → ℕ → Step
 goneOn c m t factor = saying (pairTaken c m t .event) (keptBy (inPeriod (pairTaken c m t .clock) (periodOver (c .period) t) factor) m t)
 
--- First whether the clock still stands; a number not above the last is dropped; then the tests, with the factor in use before the message.
+-- First whether the clock still stands; a number not above the last is dropped; then the tests.
 unfoldable pub resynchronise : Clock → Message → LocalTime → Step
 resynchronise c m t =
     pick (eqb (failing (standingTests (c .count) (c .resynchronised) t)) 0)
     (pick (isAbove (c .last) (m .number))
-    (pick (eqb (allFailing c m t (meanOf (c .pairs))) 0) (goneOn c m t (meanOf (c .pairs))) (lostBy c (allFailing c m t (meanOf (c .pairs)))))
+    (pick (eqb (failing (resynchroniseTests c m t)) 0) (goneOn c m t (meanOf (c .pairs))) (lostBy c (failing (resynchroniseTests c m t))))
     (saying event.dropped c))
     (lostBy c (failing (standingTests (c .count) (c .resynchronised) t)))
 

@@ -1,7 +1,9 @@
 // What a message does, by value: Synchronise, 7.4.2, and Resynchronise, 7.4.3.
 ghost use mathlib.Core.Path.{_≡_};
+ghost use mathlib.Core.List.{_++_};
 ghost use Rattle.clock.specs.Factor.{newestOf};
-ghost use Rattle.clock.specs.Updates.{pairBy, anewBy, lostBy, firstFailing, synchronise, pairFailing, periodFailing, allFailing, joinedBy, pairTaken, goneOn, resynchronise, heardBy};
+ghost use Rattle.clock.specs.Tests.{failing};
+ghost use Rattle.clock.specs.Updates.{pairBy, anewBy, lostBy, firstFailing, synchronise, testsOfPair, testsOfPeriod, joinedBy, pairTaken, goneOn, resynchronise, heardBy};
 use crate::Clock;
 use crate::LocalTime;
 use crate::Message;
@@ -124,7 +126,7 @@ fn synchronise(c: Clock, message: Message, local: LocalTime) -> Step
 
 // 7.4.3.3 to 7.4.3.5, where the message makes a pair.
 fn pair_failing(c: Clock, message: Message, factor: u32) -> u32
-    ensures { λ n. ⌜ n ≡ pairFailing c message factor ⌝ }
+    ensures { λ n. ⌜ n ≡ failing (testsOfPair c message factor) ⌝ }
 {
     if !follows(c.last, message.number) {
         return 0;
@@ -137,7 +139,7 @@ fn pair_failing(c: Clock, message: Message, factor: u32) -> u32
 
 // 7.4.3.6 and 7.4.3.7, where the period is over.
 fn period_failing(c: Clock, local: LocalTime, factor: u32) -> u32
-    ensures { λ n. ⌜ n ≡ periodFailing c local factor ⌝ }
+    ensures { λ n. ⌜ n ≡ failing (testsOfPeriod c local factor) ⌝ }
 {
     if !period_over(c.period, local) {
         return 0;
@@ -147,7 +149,7 @@ fn period_failing(c: Clock, local: LocalTime, factor: u32) -> u32
 
 // The first test that fails, in the order of the paper.
 fn all_failing(c: Clock, message: Message, local: LocalTime, factor: u32) -> u32
-    ensures { λ n. ⌜ n ≡ allFailing c message local factor ⌝ }
+    ensures { λ n. ⌜ n ≡ failing (testsOfPair c message factor ++ testsOfPeriod c local factor) ⌝ }
 {
     let failed = pair_failing(c, message, factor);
     if failed != 0 {
