@@ -22,12 +22,12 @@ uint32_t card_received(card *c, uint32_t command, const uint8_t *net, size_t len
 
     /* Only the command tells: Safe Time Layer Startup has the same form. */
     if (command != UJ_CLOCK_COMMAND)
-        return UJ_BAD_VALUE;
+        return CARD_OTHER_COMMAND;
     r = uj_clock_read(net, length);
     if (r.answer != UJ_DONE)
         return r.answer;
     event = uj_clock_message(&c->clock, r.message, local);
-    /* A failed test isolates a clock that was synchronised. One that was not only begins anew. */
+    /* A failed test isolates a clock that was synchronised. One that was not synchronised is not lost: it begins anew. */
     if (event >= UJ_CLOCK_FAILED && c->clock.state == UJ_CLOCK_ISOLATED)
         lost(c);
     return event;

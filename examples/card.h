@@ -18,8 +18,11 @@ typedef struct card {
 /* At power-on, and at no other time: a clock that is isolated stays so. */
 void card_start(card *c);
 
+/* An answer of the card itself, beside the events and the answers of uj_clock_read: the command is another's. */
+#define CARD_OTHER_COMMAND 203u
+
 /* A multicast telegram from the reference clock that passed its check and is no copy: its command, its net data, and the card's counter at its reception.
- * Gives back what the message did, or why the bytes are no Sync and Reference Time message; UJ_BAD_VALUE where the command is another's. */
+ * Gives back what the message did, or why the bytes are no Sync and Reference Time message; CARD_OTHER_COMMAND where the command is another's. */
 uint32_t card_received(card *c, uint32_t command, const uint8_t *net, size_t length, uj_local_time local);
 
 /* The Reference Time of this moment. Ask regularly, also where nobody needs the time: nothing else notices that no message comes. A counter

@@ -158,7 +158,7 @@ static void scene_run(void)
     on_bus(lost);
     hear(1, UJ_CLOCK_KEPT);
     hear(1, UJ_CLOCK_RESYNCHRONISED);
-    must(card_received(&board, 0xA4, startup, sizeof startup, local_time()) == UJ_BAD_VALUE, "another multicast message is taken for the clock's");
+    must(card_received(&board, 0xA4, startup, sizeof startup, local_time()) == CARD_OTHER_COMMAND, "another multicast message is taken for the clock's");
     printf("\n4. A period of 30 s ends. The factor may have moved by 30 ms in it (7.4.3.7).\n\n");
     hear(52, UJ_CLOCK_RESYNCHRONISED);
     printf("%20sit has moved by %d ms, of which the drift is -6\n", "", distance(board.clock.period.factor, factor));

@@ -316,13 +316,15 @@ uj_outcome uj_tick(uj_record *table, size_t count, uj_head head, uint64_t time, 
  * The clock is yours, one for the node. Make it with uj_clock_new at power-on, lend it to uj_clock_message for each Sync and Reference Time message, each
  * once and in the order in which they came, and ask it with uj_clock_reference_time. A message is the net data of a multicast telegram with
  * UJ_CLOCK_COMMAND from the reference clock, which you have checked and of which you have suppressed the copies (SUBSET-057, 6.1.1.9): whether it is
- * genuine is not asked here, and a copy makes an unsynchronised clock begin anew.
+ * genuine is not asked here, and a copy makes an unsynchronised clock begin anew. This library has no multicast: check, net data (from the ninth byte on,
+ * SUBSET-057, 6.2.1.7) and copies are yours, and uj_check and uj_net_data are not for such a telegram.
  *
- * A `uj_clock *` is readable (for uj_clock_message: writable) and aligned as C aligns a uj_clock, and until the call returns no other thread and no
- * interrupt changes it. A clock may be copied: nothing in it points anywhere.
+ * A `uj_clock *` is not null, readable (for uj_clock_message: writable) and aligned as C aligns a uj_clock. Until the call returns no other thread and no
+ * interrupt changes it or, during uj_clock_message, uses it. A clock may be copied: nothing in it points anywhere.
  *
  * Both times are counted in milliseconds and wrap at 2^32. Each has a type of its own, so that none stands in for the other. Only
- * uj_clock_reference_time makes a Reference Time out of a local time.
+ * uj_clock_reference_time makes a Reference Time out of a local time. What it gives is the paper's Local_Reference_Time, this node's estimate of Reference
+ * Time (3.4.8.1, 7.4.5.1); the factor is its Adjustment Factor (7.4.4).
  *
  * Nothing runs by itself. That the bus is silent is noticed by asking alone: ask regularly, well within 3 s. An answer UJ_TOO_FEW_PAIRS from a clock whose
  * state is UJ_CLOCK_SYNCHRONISED means that synchronisation is lost (7.4.1.7.3.3): the next message that is received after that moment isolates the clock.
@@ -359,8 +361,8 @@ typedef struct uj_sync_message {
 #define UJ_CLOCK_SYNCHRONISED 2u
 #define UJ_CLOCK_ISOLATED 3u
 
-/* The estimator. Only the functions here change it. Any values are taken. Pairs that don't count, and the fields of `last` while `received` is 0, have no
- * meaning. */
+/* The estimator. Only the functions here change it. Any values are taken. Pairs that don't count, the fields of `last` while `received` is 0, and
+ * `resynchronised` and `period` while the state is not UJ_CLOCK_SYNCHRONISED have no meaning. */
 typedef struct uj_clock {
     uj_pair pairs[UJ_CLOCK_PAIRS]; /* newest first */
     uint32_t count;                /* how many of them count; more than 16 count as 16 */
@@ -400,7 +402,7 @@ uj_reading uj_clock_read(const uint8_t *bytes, size_t length);
 
 /* What a message did: events, which are no answers and refuse nothing. From UJ_CLOCK_FAILED on it is the test that failed. A clock that was synchronised is
  * then isolated; on one that was not no pair counts any more, and it goes on from this message, or, after UJ_CLOCK_NOT_ABOVE, from the next. */
-#define UJ_CLOCK_KEPT 0u                  /* no pair: the message before this one was not received. Its local time is kept for the next */
+#define UJ_CLOCK_KEPT 0u                  /* no pair: the message before this one was not received. The local time of this one is kept for the next */
 #define UJ_CLOCK_PAIRED 1u                /* one pair more, and not yet 16 */
 #define UJ_CLOCK_NOW_SYNCHRONISED 2u      /* the sixteenth pair: synchronised from now on */
 #define UJ_CLOCK_RESYNCHRONISED 3u        /* one pair more, and all tests passed */
@@ -421,7 +423,7 @@ uj_reading uj_clock_read(const uint8_t *bytes, size_t length);
 uint32_t uj_clock_message(uj_clock *clock, uj_sync_message message, uj_local_time local);
 
 /* The factor and the Reference Time at the moment `local`. Answers UJ_DONE or UJ_TOO_FEW_PAIRS. Pairs count on a synchronised clock alone, and at moments
- * that are at most 3 s away from the last resynchronisation: so no time is given that is older than 3 s (but see docs/TRUST.md on a silence of 49.7 days).
+ * that are at most 3 s away from the last resynchronisation: so none is given by a factor that is more than 3 s old (but see docs/TRUST.md on a silence of 49.7 days).
  * A counter that was read just before the last message was taken is good. When `answer` is not UJ_DONE, the other part is 0 and must not be used. The clock stays as it is. */
 typedef struct uj_factor {
     uint32_t answer;

@@ -584,7 +584,7 @@ static void test_too_few_dropped(void)
     answers(b, UJ_CLOCK_TOO_FEW);
 }
 
-/* 7.4.3.6: one that makes no pair is. Every third message is lost; twenty come before the end of the period, of which nine make a pair. */
+/* 7.4.3.6: one that makes no pair is. Every third message is lost; twenty come before the end of the period, of which ten make a pair, the one that synchronised among them. */
 static void test_too_few_behind_gaps(void)
 {
     bus b = synchronised(starts[0]);

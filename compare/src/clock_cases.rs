@@ -153,7 +153,7 @@ fn arbitrary(random: &mut Random) -> Case {
 pub fn random(tally: &mut Tally) {
     let mut random = Random(SEED);
     let mut shares = Shares::default();
-    let name = |state: u32, answer: u32| format!("state {state}: answer {answer}");
+    let name = |state: u32, answer: u32| format!("state {state}: event {answer}");
     for _ in 0..CASES {
         let case = arbitrary(&mut random);
         let outcome = case.compare(tally);

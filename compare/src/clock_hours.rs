@@ -16,7 +16,7 @@ const MESSAGES: u32 = HOURS * 60 * 60 * 2;
 /// The parts of the 500 ms from one message to the next, in microseconds. At the beginning of each the clocks are asked.
 const PARTS: [i64; 3] = [250_000, 200_000, 50_000];
 
-/// When the clocks start: each comes to its end within the run.
+/// When the clocks start: each comes to its end within a run of 24 h.
 const REFERENCE_START: u32 = (6 * 60 * 60 * 1000u32).wrapping_neg();
 const LOCAL_START: u32 = (12 * 60 * 60 * 1000u32).wrapping_neg();
 
@@ -124,7 +124,7 @@ fn found_out(rate: i64, tally: &mut Tally) {
     tally.hold(failed, || format!("{}: not found out, {:?}", name(rate), went.lost));
     let Went { furthest, .. } = went;
     println!(
-        "{:<11}{}: found out {after} ms after synchronisation, answer {answer}, the Reference Time till then at most {furthest} ms off",
+        "{:<11}{}: found out {after} ms after synchronisation, event {answer}, the Reference Time till then at most {furthest} ms off",
         "run",
         name(rate)
     );
@@ -137,5 +137,5 @@ pub fn compare(tally: &mut Tally) {
     for rate in [2000, -2000] {
         found_out(rate, tally);
     }
-    tally.told("local clocks: steady runs by both programs, in which both clocks come to their end and go on from 0");
+    tally.told("local clocks: steady runs by both programs; in those of 24 h both clocks come to their end and go on from 0");
 }

@@ -40,7 +40,7 @@ pub struct Rules {
     pub in_time: fn(i64) -> bool,
     /// Whether a pair is as near to the factor as the short term drift asks, from its difference's distance (7.4.3.5).
     pub near: fn(i64) -> bool,
-    /// Whether a time since the start of the time frame lies behind its end (7.4.3.6).
+    /// Whether a time since the start of the time frame lies at its end or behind it (7.4.3.6).
     pub over: fn(i64) -> bool,
     /// Whether so many messages in a time frame are enough (7.4.3.6).
     pub enough: fn(i64) -> bool,

@@ -63,7 +63,7 @@ fn state_name(state: u32) -> &'static str {
 }
 
 fn answer_name(state: u32, answer: u32) -> String {
-    format!("{}: answer {answer}", state_name(state))
+    format!("{}: event {answer}", state_name(state))
 }
 
 fn count(case: &Case, outcome: &Outcome, shares: &mut Shares) {

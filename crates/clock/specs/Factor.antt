@@ -35,6 +35,7 @@ around (negsuc n) = 2 ^ 32 - 1 - n % 2 ^ 32
 abbrev pub noPair : Pair
 noPair = record { reference = record { 0 = 0 }; local = record { 0 = 0 } }
 
+-- The newest pair.
 abbrev pub newestOf : List Pair → Pair
 newestOf ps = getD ps 0 noPair
 

@@ -1,4 +1,5 @@
--- What is shown of the clock. proofs/Facts.antt proves each statement under the same name in small letters, and all of them as `facts`.
+-- What is shown of the clock. Each statement is proved under the same name in small letters in proofs/ (Rounding, Moving, Starting, Losing, Facts), and all of them are
+-- `facts` in proofs/Facts.antt.
 -- Assumes nothing.
 use mathlib.Core.Path.{_≡_}
 use mathlib.Core.Bool.{true, false}
@@ -49,6 +50,7 @@ Timed p = (p .reference .0 < 2 ^ 32) × (p .local .0 < 2 ^ 32)
 abbrev pub onward : ℕ → ℕ → ℕ
 onward k a = (a + k) % 2 ^ 32
 
+-- A pair whose reference time is k later.
 abbrev pub laterReference : ℕ → Pair → Pair
 laterReference k p = record { reference = record { 0 = onward k (p .reference .0) }; local = p .local }
 
@@ -78,7 +80,7 @@ Distance-back = (a b : ℕ) → a < 2 ^ 32 → b < 2 ^ 32 → around (pos b +ℤ
 
 -- ---- Which messages make a pair
 
--- Where the message before it was not the one received last, no pair is made, and the Reference Time that it carries is not looked at.
+-- Where the message before it was not the one received last, the pairs stay as they are, and the Reference Time that it carries is not looked at.
 abbrev pub Only-in-sequence : Type 0
 Only-in-sequence =
     (c : Clock) (n : ℕ) (r s : RefTime) (t : LocalTime) → isFollowing (c .last) n ≡ false
@@ -89,7 +91,7 @@ Only-in-sequence =
 abbrev pub Message-0-unused : Type 0
 Message-0-unused = (l : Last) → isFollowing l 0 ≡ false
 
--- ---- The limits, each at both its sides, on a message to a synchronised clock
+-- ---- The limits of the tests, at both sides, on a message to a synchronised clock
 
 -- What comes before the tests of 7.4.3: the clock is synchronised and stands, and the number is above the last.
 pub record Judged (c : Clock) (m : Message) (t : LocalTime) : Type 0 where
@@ -97,22 +99,22 @@ pub record Judged (c : Clock) (m : Message) (t : LocalTime) : Type 0 where
   pub standing : failing (standingTests (c .count) (c .resynchronised) t) ≡ 0
   pub above : isAbove (c .last) (m .number) ≡ true
 
--- 3,000 ms since the last resynchronisation stand, 3,001 lose it (7.4.1.6).
+-- On a synchronised clock with sixteen pairs: 3,000 ms since the last resynchronisation pass this test, at 3,001 synchronisation is lost (7.4.1.6).
 abbrev pub Synchronised-timer : Type 0
 Synchronised-timer =
     (c : Clock) (m : Message) (t : LocalTime) → c .state ≡ synchronised → pairsOfFactor ≤ c .count
     → (elapsed (c .resynchronised) t ≤ 3000 → failing (standingTests (c .count) (c .resynchronised) t) ≡ 0)
     × (3001 ≤ elapsed (c .resynchronised) t → heardBy c m t ≡ lostBy c event.tooLate)
 
--- A pair of which both times are later passes at 99 ms from the factor, and loses it at 100 (7.4.3.5).
+-- A pair of which both times are later passes the tests of a pair at 99 ms from the factor; at 100 synchronisation is lost (7.4.3.5).
 abbrev pub Short-term : Type 0
 Short-term =
     (c : Clock) (m : Message) (t : LocalTime) → Judged c m t → isFollowing (c .last) (m .number) ≡ true → failing (laterTests (pairBy c m) (newestOf (c .pairs))) ≡ 0
     → (apartBy (differenceOf (pairBy c m)) (meanOf (c .pairs)) ≤ 99 → failing (testsOfPair c m (meanOf (c .pairs))) ≡ 0)
     × (100 ≤ apartBy (differenceOf (pairBy c m)) (meanOf (c .pairs)) → heardBy c m t ≡ lostBy c event.shortTerm)
 
--- Where a message passes the tests of its pair, or makes none, and shows the period's end: 17 messages in it lose it (7.4.3.6); with 18 or more, 30 ms pass, and 31 lose
--- it (7.4.3.7).
+-- Where a message passes the tests of its pair, or makes none, and shows the period's end: with 17 messages or fewer in it synchronisation is lost (7.4.3.6); with 18 or
+-- more the clock goes on at 30 ms, and synchronisation is lost at 31 (7.4.3.7).
 abbrev pub Period-judged : Type 0
 Period-judged =
     (c : Clock) (m : Message) (t : LocalTime) → Judged c m t → failing (testsOfPair c m (meanOf (c .pairs))) ≡ 0 → periodOver (c .period) t ≡ true
@@ -121,7 +123,7 @@ Period-judged =
     → (apartBy (meanOf (c .pairs)) (c .period .factor) ≤ 30 → heardBy c m t ≡ goneOn c m t (meanOf (c .pairs)))
     × (31 ≤ apartBy (meanOf (c .pairs)) (c .period .factor) → heardBy c m t ≡ lostBy c event.longTerm))
 
--- ---- Losing it
+-- ---- Losing synchronisation
 
 -- A test that fails while synchronised isolates, and no pair counts.
 abbrev pub Lost-isolates : Type 0
@@ -152,11 +154,11 @@ Time-given =
     (c : Clock) (t : LocalTime) → c .state ≡ synchronised → pairsOfFactor ≤ c .count → apartBy (t .0) (c .resynchronised .0) ≤ 3000
     → timeAt c t ≡ time.At (adjustedBy t (meanOf (c .pairs)))
 
--- Before it is synchronised a clock answers 9 (7.4.1.1) ..
+-- A clock that is not synchronised gives neither factor nor time (7.4.1.1) ..
 abbrev pub Not-before : Type 0
 Not-before = (c : Clock) (t : LocalTime) → (c .state ≡ synchronised → ⊥) → (factorAt c t ≡ asked.TooFewPairs) × (timeAt c t ≡ time.TooFewPairs)
 
--- .. and so it does at a moment more than 3 s away from the last resynchronisation.
+-- .. nor does one at a moment more than 3 s away from the last resynchronisation, on the circle of 2^32: 49.7 days later is near again (docs/TRUST.md).
 abbrev pub Never-stale : Type 0
 Never-stale =
     (c : Clock) (t : LocalTime) → 3001 ≤ apartBy (t .0) (c .resynchronised .0) → (factorAt c t ≡ asked.TooFewPairs) × (timeAt c t ≡ time.TooFewPairs)
@@ -220,17 +222,19 @@ Wrap-unseen-run =
     (j k : ℕ) → k < 2 ^ 32 → (c : Clock) (xs : List (Message × LocalTime)) → Ranged c → Every In-range xs
     → after (movedClock j k c) (map (movedHeard j k) xs) ≡ movedClock j k (after c xs)
 
--- And the Reference Time asked for is the same, moved.
+-- An answer, moved.
 abbrev pub movedAsked : ℕ → TimeAsked → TimeAsked
 movedAsked j (time.At r) = time.At (record { 0 = onward j (r .0) })
 movedAsked j time.TooFewPairs = time.TooFewPairs
 
+-- And the Reference Time asked for is the same, moved.
 abbrev pub Wrap-unseen-asking : Type 0
 Wrap-unseen-asking =
     (j k : ℕ) → k < 2 ^ 32 → (c : Clock) (t : LocalTime) → Ranged c
     → timeAt (movedClock j k c) (movedLocal k t) ≡ movedAsked j (timeAt c t)
 
--- So two nodes whose clocks stand anywhere when they are switched on come to the same state by the same messages, and are given the same Reference Time, moved.
+-- So from power-on: with all reference times moved by j and all local times by k the new clock comes to the same state, and the Reference Time given is the same, moved
+-- by j. With j = 0: two nodes on one bus whose counters differ.
 abbrev pub Wrap-unseen-from-power-on : Type 0
 Wrap-unseen-from-power-on =
     (j k : ℕ) → k < 2 ^ 32 → (xs : List (Message × LocalTime)) (t : LocalTime) → Every In-range xs

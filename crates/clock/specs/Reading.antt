@@ -19,6 +19,7 @@ lowestFirst (suc n) at bs = getD bs at 0 + 256 * lowestFirst n (at + 1) bs
 unfoldable pub prefixed : List ℕ → Bool
 prefixed bs = pick (eqb (getD bs 0 0) 3) (pick (eqb (getD bs 1 0) 0) (eqb (getD bs 2 0) 0) false) false
 
+-- What a run of bytes is: the length is looked at first, then the prefix.
 unfoldable pub readBy : List ℕ → Reading
 readBy bs =
     pick (eqb (length bs) 11)

@@ -18,7 +18,7 @@ use Rattle.clock.specs.declared.Period.{Period}
 unfoldable pub isAbove : Last → ℕ → Bool
 isAbove l n = pick (eqb (l .received) 0) true (ltb (l .number) n)
 
--- The message before this number was the one received last (7.2.1.15). No number has one before 0, so that nothing is made of message 0 (6.3.1.8).
+-- The message before this number was the one received last (7.2.1.15). There is no number before 0, so that nothing is made of message 0 (6.3.1.8).
 unfoldable pub isFollowing : Last → ℕ → Bool
 isFollowing l n = pick (eqb (l .received) 0) false (eqb (l .number + 1) n)
 
@@ -44,6 +44,7 @@ laterTests new newest =
 abbrev pub nearTests : Pair → ℕ → List (Bool × ℕ)
 nearTests new factor = (ltb (apartBy (differenceOf new) factor) maxClockInaccuracy, event.shortTerm) ∷ []
 
+-- 7.4.3.3 to 7.4.3.5.
 abbrev pub pairTests : Pair → Pair → ℕ → List (Bool × ℕ)
 pairTests new newest factor = laterTests new newest ++ nearTests new factor
 

@@ -44,7 +44,7 @@ joinedBy c p m t =
     pick (ltb (keptBy (pairedBy c p) m t .count) pairsOfFactor) (saying event.paired (keptBy (pairedBy c p) m t)) (saying event.nowSynchronised (synchronisedAt (keptBy (pairedBy c p) m t) t))
 
 -- A number not above the last forgets all: whether it is a copy, or the reference clock began anew, can't be told. A message that does not follow the
--- last is kept alone.
+-- last makes no pair; it is kept, and the pairs stay.
 unfoldable pub synchronise : Clock → Message → LocalTime → Step
 synchronise c m t =
     pick (isAbove (c .last) (m .number))

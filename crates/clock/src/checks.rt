@@ -20,14 +20,16 @@ use crate::means::difference;
 // How many pairs make a factor, 7.4.4.2.2.
 pub(crate) const PAIRS: u32 = 16;
 
-// In ms, as the next two.
+// In ms, as the next two; SUBSET-059, 4.3.1.2. This one is of 7.4.1.6.1.
 pub(crate) const LOCAL_CLOCK_MAX_RESYNC_INTERVAL: u32 = 3000;
 
+// MaxClockInaccuracyAfterAdjustFactor, 7.4.3.5.
 const MAX_CLOCK_INACCURACY: u64 = 100;
 
+// 7.4.3.6, 7.4.3.7.
 pub(crate) const TIME_FOR_LONG_TERM_DRIFT_CHECK: u32 = 30000;
 
-// In a period.
+// MinNumberOfSyncAndRefMsgReceived, in a period, 7.4.3.6.
 const MIN_NUMBER_OF_MESSAGES: u32 = 18;
 
 // In ms: a thousandth of TIME_FOR_LONG_TERM_DRIFT_CHECK, 7.4.3.7.

@@ -26,6 +26,7 @@ const OTHER_PREFIX: u32 = 202;
 
 const TOO_FEW_PAIRS: u32 = 9;
 
+// No message, for a reason.
 fn no_message(answer: u32) -> PlainReading
     ensures { λ r. ⌜ r ≡ noMessage answer ⌝ }
 {
@@ -38,6 +39,7 @@ fn no_message(answer: u32) -> PlainReading
     }
 }
 
+// The factor at a moment, as plain numbers.
 fn plain_factor(c: Clock, local: LocalTime) -> PlainFactor
     ensures { λ p. ⌜ p ≡ plainFactor (factorAt c local) ⌝ }
 {
@@ -53,6 +55,7 @@ fn plain_factor(c: Clock, local: LocalTime) -> PlainFactor
     }
 }
 
+// The Reference Time at a moment, as plain numbers.
 fn plain_time(c: Clock, local: LocalTime) -> PlainTime
     ensures { λ p. ⌜ p ≡ plainTime (timeAt c local) ⌝ }
 {
@@ -68,6 +71,7 @@ fn plain_time(c: Clock, local: LocalTime) -> PlainTime
     }
 }
 
+// A clock that has received no message.
 #[no_mangle]
 pub extern "C" fn uj_clock_new() -> Clock
     ensures { λ c. ⌜ c ≡ newClock ⌝ }
@@ -75,6 +79,7 @@ pub extern "C" fn uj_clock_new() -> Clock
     crate::states::new_clock()
 }
 
+// A message from its bytes.
 #[no_mangle]
 pub extern "C" fn uj_clock_read(bytes: &[u8]) -> PlainReading
     ensures { λ r. ⌜ r ≡ plainReading (readBy (now (bytes .entry))) ⌝ }
@@ -99,6 +104,7 @@ pub extern "C" fn uj_clock_message(clock: &mut Clock, message: Message, local: L
     h.event
 }
 
+// The factor of a lent clock, which is read and left.
 #[no_mangle]
 pub extern "C" fn uj_clock_factor(clock: &Clock, local: LocalTime) -> PlainFactor
     ensures { λ p. ⌜ p ≡ plainFactor (factorAt (now (clock .entry)) local) ⌝ }
@@ -106,6 +112,7 @@ pub extern "C" fn uj_clock_factor(clock: &Clock, local: LocalTime) -> PlainFacto
     plain_factor(*clock, local)
 }
 
+// The Reference Time by a lent clock, likewise.
 #[no_mangle]
 pub extern "C" fn uj_clock_reference_time(clock: &Clock, local: LocalTime) -> PlainTime
     ensures { λ p. ⌜ p ≡ plainTime (timeAt (now (clock .entry)) local) ⌝ }

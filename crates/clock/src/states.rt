@@ -154,6 +154,7 @@ fn counting(period: Period) -> Period
     p
 }
 
+// The period after a message: the next one where it is over, else the same.
 fn period_after(period: Period, over: bool, factor: u32) -> Period
     ensures { λ p. ⌜ p ≡ periodAfter period over factor ⌝ }
 {
