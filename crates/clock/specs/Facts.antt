@@ -244,15 +244,15 @@ Wrap-unseen-from-power-on =
 -- ---- The bytes
 
 -- The n lowest bytes of a number, lowest first.
-abbrev pub bytesOf : ℕ → ℕ → List ℕ
-bytesOf zero x = []
-bytesOf (suc n) x = x % 256 ∷ bytesOf n (x / 256)
+abbrev pub lowestFirst : ℕ → ℕ → List ℕ
+lowestFirst zero x = []
+lowestFirst (suc n) x = x % 256 ∷ lowestFirst n (x / 256)
 
 -- A message laid out as 6.3.1.9 prints it is read back.
 abbrev pub Read-back : Type 0
 Read-back =
     (m : Message) → m .number < 2 ^ 32 → m .reference .0 < 2 ^ 32
-    → readBy (3 ∷ 0 ∷ 0 ∷ bytesOf 4 (m .number) ++ bytesOf 4 (m .reference .0)) ≡ Good m
+    → readBy (3 ∷ 0 ∷ 0 ∷ lowestFirst 4 (m .number) ++ lowestFirst 4 (m .reference .0)) ≡ Good m
 
 -- ---- All of them
 

@@ -11,9 +11,9 @@ use Rattle.clock.specs.declared.Reading.{Reading}
 use Rattle.clock.specs.declared.Reading.the-variants.{Good, NotEleven, OtherPrefix}
 
 -- The number that n bytes from a place on write.
-abbrev pub lowestFirst : ℕ → ℕ → List ℕ → ℕ
-lowestFirst zero at bs = 0
-lowestFirst (suc n) at bs = getD bs at 0 + 256 * lowestFirst n (at + 1) bs
+abbrev pub numberAt : ℕ → ℕ → List ℕ → ℕ
+numberAt zero at bs = 0
+numberAt (suc n) at bs = getD bs at 0 + 256 * numberAt n (at + 1) bs
 
 -- The configuration data prefix.
 unfoldable pub prefixed : List ℕ → Bool
@@ -23,4 +23,4 @@ prefixed bs = pick (eqb (getD bs 0 0) 3) (pick (eqb (getD bs 1 0) 0) (eqb (getD 
 unfoldable pub readBy : List ℕ → Reading
 readBy bs =
     pick (eqb (length bs) 11)
-    (pick (prefixed bs) (Good (record { number = lowestFirst 4 3 bs; reference = record { 0 = lowestFirst 4 7 bs } })) OtherPrefix) NotEleven
+    (pick (prefixed bs) (Good (record { number = numberAt 4 3 bs; reference = record { 0 = numberAt 4 7 bs } })) OtherPrefix) NotEleven

@@ -2,7 +2,7 @@
 ghost use mathlib.Core.Path.{_≡_};
 ghost use Prim.Native.Nat.{_<_, _≤_, _+_};
 ghost use lib.ListN.{length};
-ghost use Rattle.clock.specs.Reading.{lowestFirst, prefixed, readBy};
+ghost use Rattle.clock.specs.Reading.{numberAt, prefixed, readBy};
 use crate::Message;
 use crate::Reading;
 use crate::RefTime;
@@ -20,7 +20,7 @@ fn wide(x: u8) -> u32
 // The number of four bytes, lowest first (6.1.1.1).
 fn number_at(bytes: &[u8], at: usize) -> u32
     requires { ⌜ (at < 8) × (at + 4 ≤ length (now bytes)) ⌝ }
-    ensures { λ n. ⌜ n ≡ lowestFirst 4 at (now (bytes .entry)) ⌝ }
+    ensures { λ n. ⌜ n ≡ numberAt 4 at (now (bytes .entry)) ⌝ }
 {
     wide(bytes[at])
         + 256
