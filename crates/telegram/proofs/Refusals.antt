@@ -40,22 +40,28 @@ unfolding pick
 either-true true b e = inl refl
 either-true false b e = inr e
 
--- what a writer answers and leaves when it refuses
-pub refusing : (n : ℕ) (t d : List ℕ) → (n ≡ 0 → ⊥)
-    → (_≡_ {A = Written} (record { answer = n; length = 0 }) (answerOf (unless n t))) × (d ≡ leftBy (unless n t) d)
+-- the length told and the buffer left by a writer that refuses
+pub refusing : (n : ℕ) (t d : List ℕ) → (n ≡ 0 → ⊥) → (0 ≡ answerOf (unless n t) .length) × (d ≡ leftBy (unless n t) d)
 refusing zero t d h = absurd (h refl)
 refusing (suc n) t d h = (refl, refl)
 
--- and when it writes
-pub writing : (n : ℕ) (t d x : List ℕ) (r : Written) → n ≡ 0 → (r ≡ answerOf (wrote t)) × (x ≡ leftBy (wrote t) d)
-    → (r ≡ answerOf (unless n t)) × (x ≡ leftBy (unless n t) d)
+-- and by one that writes
+pub writing : (n : ℕ) (t d x : List ℕ) (r : ℕ) → n ≡ 0 → (r ≡ length t) × (x ≡ leftBy (wrote t) d)
+    → (r ≡ answerOf (unless n t) .length) × (x ≡ leftBy (unless n t) d)
 writing n t d x r z w = rw z w
 
+-- the refusal beside the length is the answer
+answered : (n : ℕ) (t : List ℕ) (r : ℕ) → r ≡ answerOf (unless n t) .length → _≡_ {A = Written} (record { answer = n; length = r }) (answerOf (unless n t))
+answered zero t r e = rw e
+answered (suc n) t r e = rw e
+
 -- with the refusal and the fields that the definition has
-pub as-defined : (e : End) (number low n m : ℕ) (f g net d x : List ℕ) (r : Written) → n ≡ m → f ≡ g
-    → (r ≡ answerOf (unless n (sealed e number (body (e .level) number low f net)))) × (x ≡ leftBy (unless n (sealed e number (body (e .level) number low f net))) d)
-    → (r ≡ answerOf (unless m (sealed e number (body (e .level) number low g net)))) × (x ≡ leftBy (unless m (sealed e number (body (e .level) number low g net))) d)
-as-defined e number low n m f g net d x r p q w = rw (← p, ← q) w
+pub as-defined : (e : End) (number low n m : ℕ) (f g net d x : List ℕ) (r : ℕ) → n ≡ m → f ≡ g
+    → (r ≡ answerOf (unless n (sealed e number (body (e .level) number low f net))) .length)
+    × (x ≡ leftBy (unless n (sealed e number (body (e .level) number low f net))) d)
+    → (_≡_ {A = Written} (record { answer = n; length = r }) (answerOf (unless m (sealed e number (body (e .level) number low g net)))))
+    × (x ≡ leftBy (unless m (sealed e number (body (e .level) number low g net))) d)
+as-defined e number low n m f g net d x r p q w = rw (← p, ← q) (answered n (sealed e number (body (e .level) number low f net)) r (w .0), w .1)
 
 -- a telegram without values has no fixed fields
 pub no-fields : (ws : List ℕ) → [] ≡ fieldBytes ws []

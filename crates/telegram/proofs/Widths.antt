@@ -1,6 +1,6 @@
 -- What is the same at every level, shown at both.
 -- Assumes nothing.
-use mathlib.Core.Path.{_≡_, refl, ap, _∙_}
+use mathlib.Core.Path.{_≡_, refl}
 use mathlib.Core.Bool.{Bool, true, false}
 use mathlib.Core.List.{List, _++_}
 use Prim.Native.Nat.{ℕ, _*_, _≤_}
@@ -46,16 +46,10 @@ pub generator-good : (l : ℕ) → Generator (width l) (generator l)
 unfolding width generator
 generator-good l = each (eqb l 4)
 
--- the word of each level and its bytes, where it is known which level it is
-pub word-four : (l w : ℕ) (before t bytes : List ℕ) → l ≡ 4 → w ≡ word 48 generator48 (before ++ t) → bytes ≡ bytesOf 6 w
+-- the bytes of a level's word, as many as the level has
+pub word-bytes : (l k w : ℕ) (before t bytes : List ℕ) → wordLength l ≡ k → w ≡ checkWord l before t → bytes ≡ bytesOf k w
     → bytes ≡ bytesOf (wordLength l) (checkWord l before t)
-unfolding pick wordLength width generator checkWord
-word-four l w before t bytes e f p = rw e (p ∙ ap (bytesOf 6) f)
-
-pub word-two : (l w : ℕ) (before t bytes : List ℕ) → (l ≡ 4 → ⊥) → w ≡ word 32 generator32 (before ++ t) → bytes ≡ bytesOf 4 w
-    → bytes ≡ bytesOf (wordLength l) (checkWord l before t)
-unfolding pick wordLength width generator checkWord
-word-two l w before t bytes h f p = rw (ne-eqb l 4 h) (p ∙ ap (bytesOf 4) f)
+word-bytes l k w before t bytes n f p = rw (n, ← f) p
 
 pub six : (l : ℕ) → l ≡ 4 → wordLength l ≡ 6
 unfolding pick wordLength

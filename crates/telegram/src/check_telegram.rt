@@ -5,7 +5,6 @@ ghost use lib.ListN.{length};
 ghost use Rattle.telegram.specs.Levels.{levelOf};
 ghost use Rattle.telegram.specs.Layout.{values};
 ghost use Rattle.telegram.specs.Values.{goodFields};
-ghost use Rattle.telegram.specs.Telegrams.{checkWord};
 ghost use Rattle.telegram.specs.Check.{sameLevel, numberUsed, wordAgrees, clauses, firstFailing, checkOf, answerNumber};
 use crate::Check;
 use crate::Clause;
@@ -20,6 +19,7 @@ use crate::layout::length_suits;
 use crate::layout::on_bus;
 use crate::levels::level_of;
 use crate::levels::word_length;
+use crate::levels::word_of;
 use crate::numbers::byte;
 use crate::numbers::number_at1;
 use crate::numbers::number_at2;
@@ -79,16 +79,6 @@ fn fields_in_range(kind: Kind, t: &[u8]) -> bool
         Kind::Data => true,
         Kind::Unknown => true,
     }
-}
-
-// The level's check word of two runs.
-fn word_of(level: u32, first: &[u8], second: &[u8]) -> u64
-    ensures { λ w. ⌜ w ≡ checkWord level (now (first .entry)) (now (second .entry)) ⌝ }
-{
-    if level == 4 {
-        return checkword::word48(first, second);
-    }
-    checkword::word32(first, second) as u64
 }
 
 // Whether the check word that came is the one of the end's implicit bytes and the telegram.

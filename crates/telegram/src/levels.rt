@@ -1,6 +1,7 @@
 // Everything that differs by level. A level other than 4 is taken as 2 here; which levels there are is `ends::is_level`.
 ghost use mathlib.Core.Path.{_≡_};
 ghost use Rattle.telegram.specs.Levels.{levelOf, topBits, wordLength, added};
+ghost use Rattle.telegram.specs.Telegrams.{checkWord};
 use crate::Level;
 
 // The level that a command's top two bits give.
@@ -39,4 +40,14 @@ pub(crate) fn added_number(level: u32) -> u32
     ensures { λ n. ⌜ n ≡ added level ⌝ }
 {
     if level == 4 { 1 } else { 2 }
+}
+
+// The level's check word of two runs, one after the other. The check and the writers have it from here; neither lays the runs end to end.
+pub(crate) fn word_of(level: u32, first: &[u8], second: &[u8]) -> u64
+    ensures { λ w. ⌜ w ≡ checkWord level (now (first .entry)) (now (second .entry)) ⌝ }
+{
+    if level == 4 {
+        return checkword::word48(first, second);
+    }
+    checkword::word32(first, second) as u64
 }

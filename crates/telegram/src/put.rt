@@ -6,6 +6,7 @@ ghost use Rattle.checkword.specs.Bytes.{bytesOf};
 ghost use Rattle.telegram.specs.Levels.{wordLength};
 ghost use Rattle.telegram.specs.Telegrams.{checkWord};
 ghost use Rattle.telegram.specs.Over.{over};
+use crate::levels::word_of;
 
 // Copies src into out from index at on.
 pub(crate) fn copy_at(out: &mut [u8], at: usize, src: &[u8])
@@ -34,7 +35,7 @@ fn split48(word: u64) -> [u8; 6]
 }
 
 // The four bytes of a check word, highest first.
-fn split32(word: u32) -> [u8; 4]
+fn split32(word: u64) -> [u8; 4]
     ensures { λ r. ⌜ r ≡ bytesOf 4 word ⌝ }
 {
     [
@@ -50,11 +51,12 @@ pub(crate) fn put_word(out: &mut [u8], n: usize, level: u32, implicit: &[u8; 8])
     requires { ⌜ n + wordLength level ≤ length (now out) ⌝ }
     ensures { λ _. ⌜ now (out .exit) ≡ over (now (out .entry)) n (bytesOf (wordLength level) (checkWord level (now (implicit .entry)) (take n (now (out .entry))))) ⌝ }
 {
+    let word = word_of(level, implicit, &out[..n]);
     if level == 4 {
-        let bytes = split48(checkword::word48(implicit, &out[..n]));
+        let bytes = split48(word);
         copy_at(out, n, &bytes);
         return;
     }
-    let bytes = split32(checkword::word32(implicit, &out[..n]));
+    let bytes = split32(word);
     copy_at(out, n, &bytes);
 }

@@ -56,17 +56,10 @@ fn first_refusal(end: End, room: usize, allowed: bool) -> u32
     if allowed { 0 } else { 5 }
 }
 
-// Writes a telegram by the command's low six bits, the bytes of its fixed fields, and its net data.
-fn put_telegram(
-    out: &mut [u8],
-    end: End,
-    number: u32,
-    low: u32,
-    fields: &[u8],
-    net: &[u8],
-) -> Written
+// Writes a telegram by the command's low six bits, the bytes of its fixed fields, and its net data. Its length comes back.
+fn put_telegram(out: &mut [u8], end: End, number: u32, low: u32, fields: &[u8], net: &[u8]) -> u32
     requires { ⌜ (244 ≤ length (now out)) × (2 + length (now fields) + length (now net) + wordLength (end .level) ≤ 244) × (low < 64) ⌝ }
-    ensures { λ r. ⌜ (r ≡ answerOf (wrote (sealed end number (body (end .level) number low (now (fields .entry)) (now (net .entry)))))) × (now (out .exit) ≡ leftBy (wrote (sealed end number (body (end .level) number low (now (fields .entry)) (now (net .entry))))) (now (out .entry))) ⌝ }
+    ensures { λ r. ⌜ (r ≡ length (sealed end number (body (end .level) number low (now (fields .entry)) (now (net .entry))))) × (now (out .exit) ≡ leftBy (wrote (sealed end number (body (end .level) number low (now (fields .entry)) (now (net .entry))))) (now (out .entry))) ⌝ }
 {
     let command = top_bits(end.level) * 64 + low;
     let head = [(number % 256) as u8, command as u8];
@@ -78,13 +71,10 @@ fn put_telegram(
     copy_at(out, behind, net);
     let implicit = sending_bytes(end, number, count);
     put_word(out, n, end.level, &implicit);
-    Written {
-        answer: 0,
-        length: count as u32,
-    }
+    count as u32
 }
 
-// Writes a telegram, or answers the refusal and leaves the buffer as it is.
+// Writes a telegram, or, where there is a refusal to answer, leaves the buffer as it is. The length written comes back.
 fn put_unless(
     answer: u32,
     out: &mut [u8],
@@ -93,12 +83,12 @@ fn put_unless(
     low: u32,
     fields: &[u8],
     net: &[u8],
-) -> Written
+) -> u32
     requires { ⌜ (answer ≡ 0 → (244 ≤ length (now out)) × (2 + length (now fields) + length (now net) + wordLength (end .level) ≤ 244) × (low < 64)) ⌝ }
-    ensures { λ r. ⌜ (r ≡ answerOf (unless answer (sealed end number (body (end .level) number low (now (fields .entry)) (now (net .entry)))))) × (now (out .exit) ≡ leftBy (unless answer (sealed end number (body (end .level) number low (now (fields .entry)) (now (net .entry))))) (now (out .entry))) ⌝ }
+    ensures { λ r. ⌜ (r ≡ answerOf (unless answer (sealed end number (body (end .level) number low (now (fields .entry)) (now (net .entry))))) .length) × (now (out .exit) ≡ leftBy (unless answer (sealed end number (body (end .level) number low (now (fields .entry)) (now (net .entry))))) (now (out .entry))) ⌝ }
 {
     if answer != 0 {
-        return Written { answer, length: 0 };
+        return 0;
     }
     put_telegram(out, end, number, low, fields, net)
 }
@@ -181,7 +171,8 @@ pub fn write_request(out: &mut [u8], end: End, random: u32, time: u32, net: &[u8
     let allowed = connect_allowed(time, net.len(), end.level);
     let answer = first_refusal(end, out.len(), allowed);
     let fields = connect_fields(random, time);
-    put_unless(answer, out, end, random, REQUEST, &fields, net)
+    let length = put_unless(answer, out, end, random, REQUEST, &fields, net);
+    Written { answer, length }
 }
 
 // Connect confirm (5.2.2).
@@ -191,7 +182,8 @@ pub fn write_confirm(out: &mut [u8], end: End, random: u32, time: u32, net: &[u8
     let allowed = connect_allowed(time, net.len(), end.level);
     let answer = first_refusal(end, out.len(), allowed);
     let fields = connect_fields(random, time);
-    put_unless(answer, out, end, random, CONFIRM, &fields, net)
+    let length = put_unless(answer, out, end, random, CONFIRM, &fields, net);
+    Written { answer, length }
 }
 
 // Authentication (5.2.3), from the random number RECEIVED at set-up.
@@ -200,7 +192,8 @@ pub fn write_authentication(out: &mut [u8], end: End, number: u32, received: u32
 {
     let answer = first_refusal(end, out.len(), true);
     let fields = authentication_fields(end.level, received);
-    put_unless(answer, out, end, number, AUTHENTICATION, &fields, b"")
+    let length = put_unless(answer, out, end, number, AUTHENTICATION, &fields, b"");
+    Written { answer, length }
 }
 
 // Authentication acknowledgement (5.2.4), from the random number RECEIVED at set-up.
@@ -209,7 +202,8 @@ pub fn write_acknowledgement(out: &mut [u8], end: End, number: u32, received: u3
 {
     let answer = first_refusal(end, out.len(), true);
     let fields = authentication_fields(end.level, received);
-    put_unless(answer, out, end, number, ACKNOWLEDGEMENT, &fields, b"")
+    let length = put_unless(answer, out, end, number, ACKNOWLEDGEMENT, &fields, b"");
+    Written { answer, length }
 }
 
 // Disconnect (5.2.5). A new set-up is desired, 1, or the disconnection is final, 0.
@@ -226,7 +220,8 @@ pub fn write_disconnect(
     let allowed = disconnect_allowed(new_setup, reason, text.len(), end.level);
     let answer = first_refusal(end, out.len(), allowed);
     let fields = [(new_setup % 256) as u8, (reason % 256) as u8];
-    put_unless(answer, out, end, number, DISCONNECT, &fields, text)
+    let length = put_unless(answer, out, end, number, DISCONNECT, &fields, text);
+    Written { answer, length }
 }
 
 // Idle (5.2.6).
@@ -234,7 +229,8 @@ pub fn write_idle(out: &mut [u8], end: End, number: u32) -> Written
     ensures { λ r. ⌜ (r ≡ answerOf (writesIdle end number (now (out .entry)))) × (now (out .exit) ≡ leftBy (writesIdle end number (now (out .entry))) (now (out .entry))) ⌝ }
 {
     let answer = first_refusal(end, out.len(), true);
-    put_unless(answer, out, end, number, IDLE, b"", b"")
+    let length = put_unless(answer, out, end, number, IDLE, b"", b"");
+    Written { answer, length }
 }
 
 // Data (5.2.7), with the command's low six bits.
@@ -243,5 +239,6 @@ pub fn write_data(out: &mut [u8], end: End, number: u32, low: u32, net: &[u8]) -
 {
     let allowed = data_allowed(low, net.len(), end.level);
     let answer = first_refusal(end, out.len(), allowed);
-    put_unless(answer, out, end, number, low, b"", net)
+    let length = put_unless(answer, out, end, number, low, b"", net);
+    Written { answer, length }
 }

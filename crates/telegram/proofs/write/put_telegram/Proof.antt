@@ -4,7 +4,6 @@ use mathlib.Core.Path.{ap, sym, _∙_}
 use Prim.Native.Nat.{ℕ, _+_}
 use native.Mathlib.Omega.{arith}
 use borrow.Author.Needs.{needs}
-use Rattle.telegram.specs.declared.Written.{Written}
 use Rattle.telegram.proofs.Widths.{top-small}
 use Rattle.telegram.proofs.Sealing.{telegram-length, put-steps}
 use Rattle.telegram.proofs.write.put_telegram.Statement.{statement}
@@ -55,8 +54,8 @@ sending-bytes-requires c κs = search needs
 put-word-requires : tie.Need-put-word-requires
 put-word-requires c κs = search needs
 
-cast-t14 : tie.Need-cast-t14
-cast-t14 c = search needs
+cast-result : tie.Need-cast-result
+cast-result c = search needs
 
 same-length : tie.Need-same-length
 same-length c = search needs
@@ -72,9 +71,8 @@ returns c =
     let top = length .before in
     let start = top .before .before .before .before in
     let args = start .args in (
-      ap {B = Written} (λ (n : ℕ). record { answer = 0; length = n })
-          (ap (λ (w : ℕ). 2 + lib.ListN.length (args .fields .now) + lib.ListN.length (args .net .now) + w) (length .word-length .ensures)
-          ∙ sym (telegram-length (args .end) (args .number) (args .low) (args .fields .now) (args .net .now))),
+      ap (λ (w : ℕ). 2 + lib.ListN.length (args .fields .now) + lib.ListN.length (args .net .now) + w) (length .word-length .ensures)
+          ∙ sym (telegram-length (args .end) (args .number) (args .low) (args .fields .now) (args .net .now)),
       put-steps (args .end) (args .number) (args .low) (top .top-bits .result) (length .word-length .result) (args .out .now) _ _ _ _ (args .fields .now) (args .net .now) _
           (top .top-bits .ensures) (length .word-length .ensures) (head .copy-at .ensures) (fields .copy-at2 .ensures) (net .copy-at3 .ensures)
           (implicit .sending-bytes .ensures) (word .put-word .ensures) (omega (arith, start .pre .0, start .pre .1)),
@@ -99,6 +97,6 @@ put-telegram-spec =
     copy-at-requires-3
     sending-bytes-requires
     put-word-requires
-    cast-t14
+    cast-result
     same-length
     returns)

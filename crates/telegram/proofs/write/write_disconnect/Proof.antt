@@ -18,11 +18,11 @@ disconnect-allowed-requires c κs = search needs
 first-refusal-requires : tie.Need-first-refusal-requires
 first-refusal-requires c κs = search needs
 
-cast-t12 : tie.Need-cast-t12
-cast-t12 c = search needs
+cast-t13 : tie.Need-cast-t13
+cast-t13 c = search needs
 
-cast-t14 : tie.Need-cast-t14
-cast-t14 c = search needs
+cast-t15 : tie.Need-cast-t15
+cast-t15 c = search needs
 
 slice-aggregate-put-unless : tie.Need-slice-aggregate-put-unless
 slice-aggregate-put-unless c = search needs
@@ -43,8 +43,8 @@ write-disconnect-spec =
     (tie.spec
     disconnect-allowed-requires
     first-refusal-requires
-    cast-t12
-    cast-t14
+    cast-t13
+    cast-t15
     slice-aggregate-put-unless
     put-unless-requires
     same-length

@@ -1,9 +1,9 @@
--- `telegram::check_telegram::word_of` meets its contract.
+-- `telegram::levels::word_of` meets its contract.
 -- Assumes nothing.
 use borrow.Author.Needs.{needs}
 use Rattle.telegram.proofs.Widths.{check-four, check-two}
-use Rattle.telegram.proofs.check_telegram.word_of.Statement.{statement}
-use Rattle.telegram.proofs.check_telegram.word_of.Tie as tie
+use Rattle.telegram.proofs.levels.word_of.Statement.{statement}
+use Rattle.telegram.proofs.levels.word_of.Tie as tie
 
 word48-requires : tie.Need-word48-requires
 word48-requires c κs = search needs
