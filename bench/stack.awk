@@ -1,13 +1,14 @@
-# The stack that each exported function needs, from what `objdump -t -d -r -w --no-show-raw-insn` says of an archive. bench/stack runs it.
+# The stack that each exported function needs, from the header (part=header) and from what `objdump -t -d -r -w --no-show-raw-insn` says of the archives
+# (part=listing). bench/stack runs it.
 #
 # Every instruction of a function is given its depth: the bytes between the return address and the stack pointer. The way there is followed through
-# every jump, and an instruction that is reached with two depths, or an instruction on the stack pointer that is not known here, ends the program: no
-# figure is better than a wrong one.
+# every jump. An instruction that is reached with two depths, one on the stack pointer that is not known here, or a call of a function whose code is not
+# there ends the program: no figure is better than a wrong one.
 #
-# An archive may hold several objects, each with functions of its own under the same names. So a function is known by its object's number before its name.
+# There may be several objects, each with functions of its own under the same names. So a function is known by its object's number before its name.
 
 function fail(text) {
-    print "stack: " plain(at) ": " text > "/dev/stderr"
+    print "stack: " (at == "" ? "" : plain(at) ": ") text > "/dev/stderr"
     failed = 1
     exit 1
 }
@@ -28,13 +29,35 @@ function plain(f) {
     return f
 }
 
+# The header: every name before a parenthesis, outside comments and what is for the preprocessor, is a function that it declares.
+part == "header" {
+    rest = $0
+    text = ""
+    while (rest != "") {
+        i = index(rest, comment ? "*/" : "/*")
+        if (!comment)
+            text = text (i ? substr(rest, 1, i - 1) : rest)
+        if (i)
+            comment = !comment
+        rest = i ? substr(rest, i + 2) : ""
+    }
+    while (text !~ /^ *#/ && match(text, /uj_[a-z0-9_]+\(/)) {
+        declared[++declarations] = substr(text, RSTART, RLENGTH - 1)
+        is_declared[declared[declarations]] = 1
+        text = substr(text, RSTART + RLENGTH)
+    }
+    next
+}
+
 /: +file format / {
     object++
     name = ""
 }
 
-/^[0-9a-f]+ g +F .*uj_/ {
-    exported[++total] = object "/" $NF
+# A function that can be called from outside its object, by the flags of the symbol table.
+/^[0-9a-f]+ ([gu!].|.w)....F / {
+    if ($NF in global)
+        fail($NF " is there twice")
     global[$NF] = object "/" $NF
 }
 
@@ -48,10 +71,10 @@ function plain(f) {
 
 # An instruction: its address, its name and its operands. Prefixes say nothing about the stack.
 /^ *[0-9a-f]+:\t/ && name != "" {
-    split($0, part, "\t")
-    place = part[1]
+    split($0, parts, "\t")
+    place = parts[1]
     gsub(/[ :]/, "", place)
-    text = part[2]
+    text = parts[2]
     while (sub(/^(notrack|bnd|lock|rep|repz|repnz|data16|cs) +/, "", text)) { }
     i = ++count[name]
     address[name, i] = number(place)
@@ -81,19 +104,28 @@ function callee_of(text) {
     return text
 }
 
+# The bytes by which instruction i of f lowers the stack pointer at once, for variables; negative where it gives them back.
+function lowered(f, i,    op, args, bytes) {
+    op = operation[f, i]
+    args = operands[f, i]
+    if (op !~ /^(sub|add)q?$/ || args !~ /^\$0x[0-9a-f]+,%rsp$/)
+        return 0
+    bytes = number(substr(args, 2, index(args, ",") - 2))
+    return op ~ /^sub/ ? bytes : -bytes
+}
+
 # The depth behind instruction i of f.
 function behind(f, i, d,    op, args) {
     op = operation[f, i]
     args = operands[f, i]
+    if (lowered(f, i))
+        return d + lowered(f, i)
     if (op ~ /^pushq?$/)
         return d + 8
-    if (op ~ /^popq?$/)
+    if (op ~ /^popq?$/ && args != "%rsp")
         return d - 8
-    if (op ~ /^subq?$/ && args ~ /^\$0x[0-9a-f]+,%rsp$/)
-        return d + number(substr(args, 2, index(args, ",") - 2))
-    if (op ~ /^addq?$/ && args ~ /^\$0x[0-9a-f]+,%rsp$/)
-        return d - number(substr(args, 2, index(args, ",") - 2))
-    if (args ~ /(^|,)%[er]?sp[l]?$/ && op !~ /^(cmp|test)/ || op ~ /^(leave|enter|pushf|popf)/)
+    if (args ~ /(^|,)%[er]?spl?$/ && op !~ /^(cmp|test)/ || args ~ /^%[er]?spl?,/ && op ~ /^(xchg|xadd)/ ||
+        op ~ /^(leave|enter|push|pop)/ && op !~ /^popcnt/)
         fail("not understood: " op " " args)
     return d
 }
@@ -110,10 +142,16 @@ function below(f, i,    text) {
 function note_call(f, callee, d, jumped,    own) {
     if (callee ~ /^\?/ || callee == "")
         fail("a call whose function is not named")
-    calls[f]++
     own = f
     sub(/\/.*/, "/", own)
-    called[f, calls[f]] = !((own callee) in count) && callee in global ? global[callee] : own callee
+    if ((own callee) in count)
+        callee = own callee
+    else if (callee in global)
+        callee = global[callee]
+    else
+        fail("it calls " callee ", whose code is not there")
+    calls[f]++
+    called[f, calls[f]] = callee
     call_depth[f, calls[f]] = d + (jumped ? 0 : 8)
 }
 
@@ -144,8 +182,7 @@ function follow(f, i, d,    op) {
             return
         }
         depth[f, i] = d
-        if (d + below(f, i) > peak[f])
-            peak[f] = d + below(f, i)
+        note_use(f, i, d)
         op = operation[f, i]
         if (op ~ /^retq?$/) {
             if (d != 0)
@@ -159,6 +196,8 @@ function follow(f, i, d,    op) {
                 fail("a call through a register")
             note_call(f, (f, i) in outside ? outside[f, i] : symbol_of(operands[f, i]), d, 0)
         } else if (op ~ /^jmpq?$/ && operands[f, i] ~ /^\*/) {
+            if (operands[f, i] !~ /^\*%r[a-z0-9]+$/)
+                fail("not understood: " op " " operands[f, i])
             if (f in table_depth && table_depth[f] != d)
                 fail("jumps through tables at two depths")
             table_depth[f] = d
@@ -175,6 +214,16 @@ function follow(f, i, d,    op) {
     }
 }
 
+# Notes how deep instruction i of f goes, and how much it keeps for variables: above the stack pointer, and below it.
+function note_use(f, i, d) {
+    if (d + below(f, i) > peak[f])
+        peak[f] = d + below(f, i)
+    if (below(f, i) > under[f])
+        under[f] = below(f, i)
+    if (lowered(f, i) > above[f])
+        above[f] = lowered(f, i)
+}
+
 # The function that a call inside one section names.
 function symbol_of(text) {
     sub(/^[^<]*</, "", text)
@@ -183,9 +232,9 @@ function symbol_of(text) {
 }
 
 # All ways of a function. What only a table of jumps leads to is followed from the table's depth; what is left then is padding.
-function measure(f,    i) {
+function measure(f,    i, by_table) {
     at = f
-    peak[f] = 0
+    peak[f] = under[f] = above[f] = 0
     visit(f, 1, 0)
     for (;;) {
         while (todo > 0) {
@@ -194,52 +243,60 @@ function measure(f,    i) {
         }
         for (i = 1; i <= count[f] && ((f, i) in depth || operation[f, i] ~ /^(nop|xchg|int3)/); i++) { }
         if (i > count[f])
-            return
+            break
         if (!(f in table_depth))
             fail("an instruction that nothing leads to")
+        by_table = 1
         visit(f, i, table_depth[f])
     }
+    if (f in table_depth && !by_table)
+        fail("a jump through a register, and no table")
 }
 
-# The bytes that f needs, its return address included, and in `chain` the calls that need them.
-function need(f,    i, callee, deepest, bytes) {
+# The bytes that f needs, its return address included. `chain` has the calls that need them, with what each function holds when it calls the next, and
+# `variables` the most that one function on any way from f keeps for its variables.
+function need(f,    i, callee, bytes) {
     if (f in needed)
         return needed[f]
     at = f
     if (f in active)
         fail("recursion")
     active[f] = 1
-    deepest = 8 + peak[f]
-    chain[f] = plain(f) " " deepest
+    measure(f)
+    bytes = 8 + peak[f]
+    chain[f] = bytes
+    variables[f] = above[f] + under[f]
     for (i = 1; i <= calls[f]; i++) {
         callee = called[f, i]
-        if (!(callee in count)) {
-            unresolved[plain(callee)] = 1
-            continue
+        if (call_depth[f, i] + need(callee) > bytes) {
+            bytes = call_depth[f, i] + need(callee)
+            chain[f] = call_depth[f, i] " + `" plain(callee) "` " chain[callee]
         }
-        bytes = call_depth[f, i] + need(callee)
-        if (bytes > deepest) {
-            deepest = bytes
-            chain[f] = plain(f) " " call_depth[f, i] " + " chain[callee]
-        }
+        if (variables[callee] > variables[f])
+            variables[f] = variables[callee]
     }
     delete active[f]
-    return needed[f] = deepest
+    return needed[f] = bytes
 }
 
 END {
     if (failed)
         exit 1
-    at = archive
-    if (total == 0)
-        fail("no exported function uj_...")
-    for (f in count)
-        measure(f)
-    for (i = 1; i <= total; i++)
-        need(exported[i])
-    printf "%-26s %5s  %s\n", archive, "bytes", "deepest chain, with what each function holds when it calls the next"
-    for (i = 1; i <= total; i++)
-        printf "%-26s %5d  %s\n", plain(exported[i]), needed[exported[i]], chain[exported[i]]
-    for (f in unresolved)
-        print "counted as 0, since its code is not in the archive: " f
+    at = ""
+    if (declarations == 0)
+        fail("the header declares no function uj_...")
+    for (name in global)
+        if (!(name in is_declared))
+            fail("the header does not declare " name)
+    for (i = 1; i <= declarations; i++)
+        if (!(declared[i] in global))
+            fail(declared[i] " is declared, and not in the archives")
+    for (i = 1; i <= declarations; i++)
+        need(global[declared[i]])
+    print "| Function | Bytes | Variables | Deepest chain |"
+    print "|---|---|---|---|"
+    for (i = 1; i <= declarations; i++) {
+        f = global[declared[i]]
+        printf "| `%s` | %d | %d |%s |\n", declared[i], needed[f], variables[f], chain[f] ~ /\+/ ? " " chain[f] : ""
+    }
 }
