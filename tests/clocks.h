@@ -110,7 +110,7 @@ static void check_moments(const uj_clock *before, uj_local_time local, const uj_
 }
 
 /* What the header promises of every message. */
-static void check_promises(const uj_clock *before, uj_sync_message m, uj_local_time local, const uj_clock *after, uint32_t answer)
+static void check_message(const uj_clock *before, uj_sync_message m, uj_local_time local, const uj_clock *after, uint32_t answer)
 {
     check_state(before->state, after->state, answer);
     check_pairs(before, m, after, answer);
@@ -134,7 +134,7 @@ static uint32_t heard(uj_clock *c, uj_sync_message m, uj_local_time local)
         uj_clock *lent = lend_clock(place, &before);
         const uint32_t answer = uj_clock_message(lent, m, local);
         CHECK(untouched(&clock_room, sizeof before));
-        check_promises(&before, m, local, lent, answer);
+        check_message(&before, m, local, lent, answer);
         if (place == 0) {
             first = answer;
             *c = *lent;
