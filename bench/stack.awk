@@ -2,8 +2,10 @@
 # (part=listing). bench/stack runs it.
 #
 # Every instruction of a function is given its depth: the bytes between the return address and the stack pointer. The way there is followed through
-# every jump. An instruction that is reached with two depths, one on the stack pointer that is not known here, or a call of a function whose code is not
-# there ends the program: no figure is better than a wrong one.
+# every jump. An instruction that is reached with two depths, one on the stack pointer that is not known here, a byte below the stack pointer that is
+# addressed by a copy of it or by an index, or a call of a function whose code is not there ends the program: no figure is better than a wrong one. What it
+# cannot see is an address below the stack pointer that is worked out in a register, and a jump through a register out of a function that has a table of
+# jumps too; neither is in the archives, and tests/stack.c sees what either would do.
 #
 # There may be several objects, each with functions of its own under the same names. So a function is known by its object's number before its name.
 
@@ -214,8 +216,25 @@ function follow(f, i, d,    op) {
     }
 }
 
+# Ends the program where instruction i of f may use bytes below the stack pointer that its displacement does not tell: by a copy of the stack pointer, as a
+# frame pointer is one, or by an index.
+function refuse_hidden(f, i,    args, copy) {
+    args = operands[f, i]
+    if (operation[f, i] ~ /^movq?$/ && args ~ /^%rsp,%r[a-z0-9]+$/)
+        copies[f, substr(args, 6)] = 1
+    if (args ~ /-0x[0-9a-f]+\(%rsp,/)
+        fail("not understood: " operation[f, i] " " args)
+    if (match(args, /-0x[0-9a-f]+\(%r[a-z0-9]+/)) {
+        copy = substr(args, RSTART, RLENGTH)
+        sub(/.*\(/, "", copy)
+        if ((f, copy) in copies)
+            fail("not understood: " operation[f, i] " " args ", by a copy of the stack pointer")
+    }
+}
+
 # Notes how deep instruction i of f goes, and how much it keeps for variables: above the stack pointer, and below it.
 function note_use(f, i, d) {
+    refuse_hidden(f, i)
     if (d + below(f, i) > peak[f])
         peak[f] = d + below(f, i)
     if (below(f, i) > under[f])

@@ -4,6 +4,8 @@
  * tests/run writes stack_figures.h from the table of bench/stack, with a line FIGURE(name, bytes) for each function of include/ujamniq.h, and has the linker
  * lead every call of such a function to __wrap_NAME, which stands here; the function itself is __real_NAME then. So the calls in the headers of the other
  * tests are measured as they are.
+ *
+ * Seen is what a call writes. A byte that it only reads or keeps free is not, and neither is one deeper than the paint, with nothing written in between.
  */
 #ifndef PAINTED_H
 #define PAINTED_H
@@ -24,7 +26,7 @@ typedef struct function {
 
 /* Takes the depth of a call from `measured`. A byte that was written with the paint's own value shows under the other paint: the headers make each call
  * once for each place of guarded.h, and so under both. */
-void note(function *f, size_t depth);
+void note(function *f, size_t depth) __attribute__((used));
 void note(function *f, size_t depth)
 {
     count_check(depth <= f->figure, __LINE__, f->fault);
@@ -87,14 +89,15 @@ __asm__(".pushsection .bss\n"
         ".popsection\n");
 
 /* The record of a function, and a way to its code through `measured`. */
-#define MEASURED(way, code, name, bytes)                                                                                    \
-    function figure_##name = {PAINT * (UINT64_MAX / 0xFF), #name, #name " went deeper than " #bytes " bytes", bytes, 0, 0}; \
-    _Static_assert(2 * (bytes) < PAINTED, #name);                                                                           \
-    __asm__(".pushsection .text\n"                                                                                          \
-            ".globl " way "\n" way ":\n"                                                                                    \
-            "    leaq  " code "(%rip), %rax\n"                                                                              \
-            "    leaq  figure_" #name "(%rip), %r11\n"                                                                      \
-            "    jmp   measured\n"                                                                                          \
+#define MEASURED(way, code, name, bytes)                                                              \
+    __attribute__((used)) function figure_##name = {                                                  \
+        PAINT * (UINT64_MAX / 0xFF), #name, #name " went deeper than " #bytes " bytes", bytes, 0, 0}; \
+    _Static_assert(2 * (bytes) < PAINTED, #name);                                                     \
+    __asm__(".pushsection .text\n"                                                                    \
+            ".globl " way "\n" way ":\n"                                                              \
+            "    leaq  " code "(%rip), %rax\n"                                                        \
+            "    leaq  figure_" #name "(%rip), %r11\n"                                                \
+            "    jmp   measured\n"                                                                    \
             ".popsection\n")
 
 #define FIGURE(name, bytes) MEASURED("__wrap_" #name, "__real_" #name, name, bytes);

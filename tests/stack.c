@@ -1,7 +1,7 @@
 /*
  * The stack that the functions of include/ujamniq.h use when they run, held to what bench/stack reads from their compiled code: no call goes deeper than the
- * figure of its function, and over all cases each function comes down to its figure. A function that is exported and has no case here does not, and
- * fails the test. What the functions do is for the other tests; here every call counts for its depth (painted.h).
+ * figure of its function, and over all cases each function, but for those in `less`, comes down to its figure. A function that is exported and has no case
+ * here does not, and fails the test. What the functions do is for the other tests; here every call counts for its depth (painted.h).
  *
  * In this order: functions with known figures to try the measuring on, the check word, the writers, the check, the calls over a table, the local clock, what
  * was seen.
