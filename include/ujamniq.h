@@ -1,7 +1,8 @@
 /*
  * Ujamniq: the Safe Link Layer of the STM bus (SUBSET-057 version 2.2.0), levels 4 and 2, and the local clock of its Safe Time Layer, for C firmware.
  *
- * Link libujamniq.a, which `./install FOLDER` makes: every function of this header is in it. It uses no heap.
+ * Link libujamniq.a, which `./install FOLDER` makes: every function of this header is in it. It uses no heap; what each function needs of the stack at
+ * worst stands in docs/MEASURED.md, and what to keep in mind on an interrupt stack in docs/LINKING.md.
  *
  * A node uses the five calls over its table: uj_open, uj_close, uj_send, uj_received, uj_tick. They write every telegram and check every telegram by
  * themselves. The writers, the check and the check word also stand alone, and so does the local clock of SUBSET-056, the last part of this header.
