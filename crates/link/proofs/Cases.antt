@@ -15,7 +15,8 @@ use Rattle.telegram.specs.declared.Check.{Check}
 use Rattle.telegram.proofs.Refusals.{both-true}
 use Rattle.link.specs.Records.{endOf, isPhase, isClosed, atRest, recordInRange}
 use Rattle.link.specs.Table.{Row, Timeout-snd, Timeout-brk, Incorrect-rcv-1st}
-use Rattle.link.specs.Judged.{rowOf, ruled, narrowed, checkedBy}
+use Rattle.link.specs.Times.{idleDue}
+use Rattle.link.specs.Judged.{rowOf, ruled, narrowed, checkedBy, runOut, runOutVerdict, onTick, ticked}
 use Rattle.link.specs.Steps.{neb, firstRefusal, quietly, actOf, actOut}
 use Rattle.link.specs.declared.Record.{Record}
 use Rattle.link.specs.Plain.{happened}
@@ -23,7 +24,7 @@ use Rattle.link.specs.declared.Happened.{Happened}
 use Rattle.link.specs.declared.Event.{Event}
 use Rattle.link.specs.declared.Step.{Step}
 use Rattle.link.specs.declared.Verdict.{Verdict}
-use Rattle.link.specs.declared.Verdict.the-variants.{SendIdle, Close}
+use Rattle.link.specs.declared.Verdict.the-variants.{Nothing, SendIdle, Close}
 
 pub ruled-at : (row : Row) (p q : ℕ) (v : Verdict) → p ≡ q → v ≡ ruled row q → v ≡ ruled row p
 ruled-at row p q v e h = rw e h
@@ -42,6 +43,15 @@ pub act-out-is : (v w : Verdict) (r : Record) (own random declared : ℕ) (t net
     → x ≡ actOut w r own random declared t net d → x ≡ actOut v r own random declared t net d
 act-out-is v w r own random declared t net d x e h = rw e h
 
+-- the same of a tick
+pub tick-step-is : (v w : Verdict) (r : Record) (own time : ℕ) (d : List ℕ) (s : Step) → v ≡ w
+    → s ≡ actOf (onTick w) r own time 0 0 [] [] d → s ≡ actOf (onTick v) r own time 0 0 [] [] d
+tick-step-is v w r own time d s e h = rw e h
+
+pub tick-out-is : (v w : Verdict) (r : Record) (own : ℕ) (d x : List ℕ) → v ≡ w
+    → x ≡ actOut (onTick w) r own 0 0 [] [] d → x ≡ actOut (onTick v) r own 0 0 [] [] d
+tick-out-is v w r own d x e h = rw e h
+
 -- what holds in each of the six phases holds in any of them
 pub columns : (P : ℕ → Type 0) (p : ℕ) → 1 ≤ p → p ≤ 6 → P 1 → P 2 → P 3 → P 4 → P 5 → P 6 → P p
 columns P zero l h a b c d e f = absurd (omega arith)
@@ -56,6 +66,19 @@ columns P (suc (suc (suc (suc (suc (suc (suc p))))))) l h a b c d e f = absurd (
 -- and so from 1 to 5
 pub phases : (P : ℕ → Type 0) (p : ℕ) → 1 ≤ p → p ≤ 5 → P 1 → P 2 → P 3 → P 4 → P 5 → P p
 phases P p l h a b c d e = columns (λ (q : ℕ). q ≤ 5 → P q) p l (omega arith) (λ _. a) (λ _. b) (λ _. c) (λ _. d) (λ _. e) (λ m. absurd (omega arith)) h
+
+-- a tick asks for nothing that needs a telegram
+asks-either : (b : Bool) (v w : Verdict) → onTick v ≡ v → onTick w ≡ w → onTick (pick b v w) ≡ pick b v w
+unfolding pick
+asks-either true v w p q = p
+asks-either false v w p q = q
+
+pub tick-asks : (r : Record) (time : ℕ) → 1 ≤ r .phase → r .phase ≤ 5 → onTick (ticked r time) ≡ ticked r time
+unfolding ticked runOutVerdict pick
+tick-asks r time l h =
+    asks-either (runOut r time) _ _ (phases (λ (p : ℕ). onTick (runOutVerdict p) ≡ runOutVerdict p) (r .phase) l h refl refl refl refl refl)
+    (asks-either (eqb (r .phase) 5) _ Nothing
+    (asks-either (idleDue r time) _ Nothing (phases (λ (p : ℕ). onTick (ruled Timeout-snd p) ≡ ruled Timeout-snd p) (r .phase) l h refl refl refl refl refl) refl) refl)
 
 -- an incorrect telegram closes in every phase but the closed one
 pub incorrect : (p : ℕ) → 2 ≤ p → p ≤ 5 → Close 0x06 false ≡ ruled Incorrect-rcv-1st p

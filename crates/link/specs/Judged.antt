@@ -133,6 +133,19 @@ runOutVerdict p = pick (eqb p 5) (ruled Timeout-rcv p) (ruled Timeout-brk p)
 unfoldable pub judged : Record → ℕ → ℕ → List ℕ → Verdict
 judged r own time t = pick (runOut r time) (runOutVerdict (r .phase)) (checkedBy (checkOf (endOf r own) (expectedNow r) t) r t)
 
+-- What a tick can ask for of a verdict: an idle telegram or a closing. All else needs a telegram.
+abbrev pub onTick : Verdict → Verdict
+onTick SendIdle = SendIdle
+onTick (Close reason last) = Close reason last
+onTick Nothing = Nothing
+onTick Confirm = Nothing
+onTick Authenticate = Nothing
+onTick Acknowledge = Nothing
+onTick Open = Nothing
+onTick Data = Nothing
+onTick Idle = Nothing
+onTick Disconnected = Nothing
+
 -- A tick: closing comes before idle, and idle is due on an open connection only.
 unfoldable pub ticked : Record → ℕ → Verdict
 ticked r time =

@@ -7,6 +7,7 @@ ghost use Rattle.telegram.specs.Fields.{typeOf, reasonOf, lowOf};
 ghost use Rattle.telegram.specs.NetData.{netPart};
 ghost use Rattle.telegram.specs.Writers.{answerOf, leftBy, writesDisconnect, writesIdle};
 ghost use Rattle.link.specs.Records.{endOf, closedBy};
+ghost use Rattle.link.specs.Judged.{onTick};
 ghost use Rattle.link.specs.Steps.{quietly, refusedStep, writingStep, sent, actOf, actOut};
 use crate::Answer;
 use crate::Event;
@@ -188,7 +189,7 @@ fn new_setup_after(last: bool) -> u32
     if last { 0 } else { 1 }
 }
 
-// A closing of our own: the disconnect carries the number from before it.
+// A closing that a telegram asks for: the disconnect carries the number from before it.
 fn close_step(record: Record, own: u32, reason: u32, last: bool, out: &mut [u8]) -> Step
     ensures { λ s. ⌜ (s ≡ writingStep (answerOf (writesDisconnect (endOf «record» own) («record» .sending) (pick last 0 1) reason [] (now (out .entry)))) «record» (closedBy last «record») 5 (Event.Closed reason last)) × (now (out .exit) ≡ leftBy (writesDisconnect (endOf «record» own) («record» .sending) (pick last 0 1) reason [] (now (out .entry))) (now (out .entry))) ⌝ }
 {
@@ -205,7 +206,26 @@ fn close_step(record: Record, own: u32, reason: u32, last: bool, out: &mut [u8])
     )
 }
 
-// The step that a verdict makes.
+// The same for a tick, with its own lines on purpose: a function of this size that has two callers is compiled by itself, and record and step then go to it
+// and back through the stack of both (docs/DECISIONS.md, "Stack on the small card").
+fn close_on_tick(record: Record, own: u32, reason: u32, last: bool, out: &mut [u8]) -> Step
+    ensures { λ s. ⌜ (s ≡ writingStep (answerOf (writesDisconnect (endOf «record» own) («record» .sending) (pick last 0 1) reason [] (now (out .entry)))) «record» (closedBy last «record») 5 (Event.Closed reason last)) × (now (out .exit) ≡ leftBy (writesDisconnect (endOf «record» own) («record» .sending) (pick last 0 1) reason [] (now (out .entry))) (now (out .entry))) ⌝ }
+{
+    let end = end_of(record, own);
+    let r = closed_by(last, record);
+    let new_setup = new_setup_after(last);
+    let number = record.sending;
+    let written = telegram::write_disconnect(out, end, number, new_setup, reason, b"");
+    written_step(
+        written,
+        record,
+        r,
+        DISCONNECT,
+        Event::Closed { reason, last },
+    )
+}
+
+// The step that a verdict on a telegram makes.
 pub(crate) fn act(
     verdict: Verdict,
     record: Record,
@@ -230,5 +250,29 @@ pub(crate) fn act(
         Verdict::SendIdle => idle_step(record, own, time, out),
         Verdict::Disconnected => disconnected_step(record, telegram),
         Verdict::Close { reason, last } => close_step(record, own, reason, last, out),
+    }
+}
+
+// The step that a verdict on a tick makes. What only a telegram can ask for is nothing here.
+pub(crate) fn act_on_tick(
+    verdict: Verdict,
+    record: Record,
+    own: u32,
+    time: u64,
+    out: &mut [u8],
+) -> Step
+    ensures { λ s. ⌜ (s ≡ actOf (onTick verdict) «record» own time 0 0 [] [] (now (out .entry))) × (now (out .exit) ≡ actOut (onTick verdict) «record» own 0 0 [] [] (now (out .entry))) ⌝ }
+{
+    match verdict {
+        Verdict::SendIdle => idle_step(record, own, time, out),
+        Verdict::Close { reason, last } => close_on_tick(record, own, reason, last, out),
+        Verdict::Nothing => quiet_step(record, Event::Nothing),
+        Verdict::Confirm => quiet_step(record, Event::Nothing),
+        Verdict::Authenticate => quiet_step(record, Event::Nothing),
+        Verdict::Acknowledge => quiet_step(record, Event::Nothing),
+        Verdict::Open => quiet_step(record, Event::Nothing),
+        Verdict::Data => quiet_step(record, Event::Nothing),
+        Verdict::Idle => quiet_step(record, Event::Nothing),
+        Verdict::Disconnected => quiet_step(record, Event::Nothing),
     }
 }

@@ -12,6 +12,7 @@ use crate::act::DATA;
 use crate::act::DISCONNECT;
 use crate::act::REQUEST;
 use crate::act::act;
+use crate::act::act_on_tick;
 use crate::act::refused_step;
 use crate::act::written_step;
 use crate::judge::judge;
@@ -219,5 +220,5 @@ pub fn tick(record: Record, own: u32, time: u64, out: &mut [u8]) -> Step
         return refused_step(answer, record);
     }
     let verdict = judge_tick(record, time);
-    act(verdict, record, own, time, 0, 0, b"", b"", out)
+    act_on_tick(verdict, record, own, time, out)
 }

@@ -6,7 +6,7 @@ use borrow.Author.Tests.{eq-eqb, ne-eqb}
 use borrow.Author.Needs.{needs}
 use Rattle.telegram.specs.Choice.{yes, no}
 use Rattle.link.specs.Steps.{tickOf, tickOut, tickRefusal}
-use Rattle.link.proofs.Cases.{live-phase}
+use Rattle.link.proofs.Cases.{live-phase, tick-asks}
 use Rattle.link.proofs.steps.tick.Statement.{statement}
 use Rattle.link.proofs.steps.tick.Tie as tie
 
@@ -32,21 +32,28 @@ returns c = rw (← c .before .before .before .before .before .is-not .ensures, 
 judge-tick-requires : tie.Need-judge-tick-requires
 judge-tick-requires c κs = live-phase (c .before .before .before .before .before .before .args .«record») (c .before .before .before .before .before .before .args .own) (c .before .first-refusal .result) (c .before .before .has-room .result) true true true (rw (← c .before .before .before .before .is-not .ensures, ← c .before .before .before .record-in-range .ensures) (c .before .first-refusal .ensures)) (c .if1 .left)
 
-slice-aggregate-act : tie.Need-slice-aggregate-act
-slice-aggregate-act c = search needs
-
-slice-aggregate-act-2 : tie.Need-slice-aggregate-act-2
-slice-aggregate-act-2 c = search needs
-
-act-requires : tie.Need-act-requires
-act-requires c κs = search needs
+act-on-tick-requires : tie.Need-act-on-tick-requires
+act-on-tick-requires c κs = search needs
 
 same-length : tie.Need-same-length
 same-length c = search needs
 
 returns-2 : tie.Need-returns-2
 unfolding tickOf tickOut tickRefusal
-returns-2 c = rw (← c .before .before .before .before .before .before .before .before .before .before .before .is-not .ensures, ← c .before .before .before .before .before .before .before .before .before .before .record-in-range .ensures, ← c .before .before .before .before .before .before .before .before .before .has-room .ensures, ← c .before .before .before .before .before .before .before .before .first-refusal .ensures, ← c .before .before .before .before .before .before .judge-tick .ensures) (yes _ _ _ _ (eq-eqb _ _ (c .before .before .before .before .before .before .before .if1 .left)) (c .before .before .act .ensures .0), yes _ _ _ _ (eq-eqb _ _ (c .before .before .before .before .before .before .before .if1 .left)) (c .before .before .act .ensures .1))
+returns-2 c =
+    let did = c .before .before in
+    let asked = did .before .before in
+    let let-through = asked .before in
+    let refusal = let-through .before in
+    let room = refusal .before in
+    let ranged = room .before in
+    let live = ranged .before in
+    let record-of = live .before .before .args .«record» in
+    let own = live .before .before .args .own in
+    let time = live .before .before .args .time in
+    let alive = live-phase record-of own (refusal .first-refusal .result) (room .has-room .result) true true true (rw (← live .is-not .ensures, ← ranged .record-in-range .ensures) (refusal .first-refusal .ensures)) (let-through .if1 .left) in
+    rw (← live .is-not .ensures, ← ranged .record-in-range .ensures, ← room .has-room .ensures, ← refusal .first-refusal .ensures, ← tick-asks record-of time (alive .0) (alive .1), ← asked .judge-tick .ensures)
+    (yes _ _ _ _ (eq-eqb _ _ (let-through .if1 .left)) (did .act-on-tick .ensures .0), yes _ _ _ _ (eq-eqb _ _ (let-through .if1 .left)) (did .act-on-tick .ensures .1))
 
 pub tick-spec : {M : Type 1} → statement M
 tick-spec =
@@ -59,8 +66,6 @@ tick-spec =
     refused-step-requires
     returns
     judge-tick-requires
-    slice-aggregate-act
-    slice-aggregate-act-2
-    act-requires
+    act-on-tick-requires
     same-length
     returns-2)
