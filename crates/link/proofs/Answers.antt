@@ -23,7 +23,7 @@ use Rattle.telegram.specs.declared.Kind.the-variants as kind
 use Rattle.telegram.specs.declared.Check.{Check}
 use Rattle.telegram.specs.declared.Check.the-variants.{Passes, Failed, Refused}
 use Rattle.telegram.proofs.Refusals.{both-are}
-use Rattle.link.proofs.Cases.{live-phase, phases}
+use Rattle.link.proofs.Cases.{live-phase, phases, either}
 use Rattle.link.proofs.Accepted.{parts}
 use Rattle.link.specs.Records.{endOf, recordInRange}
 use Rattle.link.specs.Table.{Timeout-snd, Incorrect-rcv-1st}
@@ -111,22 +111,21 @@ act-number Disconnected r own time random declared t net d h m a w = quiet-numbe
 act-number (Close reason last) r own time random declared t net d h m a w =
     writing-number _ r _ 5 _ (writes (endOf r own) (length d) _ _ (parts r own h .end) m (closing-allowed last reason (r .level) w))
 
-either : (b : Bool) (v w : Verdict) → writable v ≡ true → writable w ≡ true → writable (pick b v w) ≡ true
-unfolding pick
-either true v w p q = p
-either false v w p q = q
+-- no writer refuses what the verdict asks for
+abbrev Goes-out : Verdict → Type 0
+Goes-out v = writable v ≡ true
 
 -- every row's reasons are listed, in every phase
 by-kind : (k : Kind) (p : ℕ) (r : Record) (t : List ℕ) → 1 ≤ p → p ≤ 5 → writable (narrowed (ruled (rowOf k) p) r t) ≡ true
 unfolding listedReason pick
 by-kind kind.Request p r t l h =
-    phases (λ (q : ℕ). writable (narrowed (ruled (rowOf kind.Request) q) r t) ≡ true) p l h (either (goodVersion t) Confirm Nothing refl refl) refl refl refl refl
+    phases (λ (q : ℕ). writable (narrowed (ruled (rowOf kind.Request) q) r t) ≡ true) p l h (either Goes-out (goodVersion t) Confirm Nothing refl refl) refl refl refl refl
 by-kind kind.Confirm p r t l h =
-    phases (λ (q : ℕ). writable (narrowed (ruled (rowOf kind.Confirm) q) r t) ≡ true) p l h refl (either (goodVersion t) Authenticate (Close 0x01 true) refl refl) refl refl refl
+    phases (λ (q : ℕ). writable (narrowed (ruled (rowOf kind.Confirm) q) r t) ≡ true) p l h refl (either Goes-out (goodVersion t) Authenticate (Close 0x01 true) refl refl) refl refl refl
 by-kind kind.Authentication p r t l h =
-    phases (λ (q : ℕ). writable (narrowed (ruled (rowOf kind.Authentication) q) r t) ≡ true) p l h refl refl (either (goodNumber r 1 t) Acknowledge (Close 0x03 true) refl refl) refl refl
+    phases (λ (q : ℕ). writable (narrowed (ruled (rowOf kind.Authentication) q) r t) ≡ true) p l h refl refl (either Goes-out (goodNumber r 1 t) Acknowledge (Close 0x03 true) refl refl) refl refl
 by-kind kind.Acknowledgement p r t l h =
-    phases (λ (q : ℕ). writable (narrowed (ruled (rowOf kind.Acknowledgement) q) r t) ≡ true) p l h refl refl refl (either (goodNumber r 2 t) Open (Close 0x03 true) refl refl) refl
+    phases (λ (q : ℕ). writable (narrowed (ruled (rowOf kind.Acknowledgement) q) r t) ≡ true) p l h refl refl refl (either Goes-out (goodNumber r 2 t) Open (Close 0x03 true) refl refl) refl
 by-kind kind.Disconnect p r t l h = phases (λ (q : ℕ). writable (narrowed (ruled (rowOf kind.Disconnect) q) r t) ≡ true) p l h refl refl refl refl refl
 by-kind kind.Idle p r t l h = phases (λ (q : ℕ). writable (narrowed (ruled (rowOf kind.Idle) q) r t) ≡ true) p l h refl refl refl refl refl
 by-kind kind.Data p r t l h = phases (λ (q : ℕ). writable (narrowed (ruled (rowOf kind.Data) q) r t) ≡ true) p l h refl refl refl refl refl
@@ -148,12 +147,12 @@ by-check (Refused n) r t l h = incorrect (r .phase) l h
 
 judged-writable : (r : Record) (own time : ℕ) (t : List ℕ) → 1 ≤ r .phase → r .phase ≤ 5 → writable (judged r own time t) ≡ true
 unfolding judged
-judged-writable r own time t l h = either (runOut r time) _ _ (run-out (r .phase) l h) (by-check (checkOf (endOf r own) (expectedNow r) t) r t l h)
+judged-writable r own time t l h = either Goes-out (runOut r time) _ _ (run-out (r .phase) l h) (by-check (checkOf (endOf r own) (expectedNow r) t) r t l h)
 
 ticked-writable : (r : Record) (time : ℕ) → 1 ≤ r .phase → r .phase ≤ 5 → writable (ticked r time) ≡ true
 unfolding ticked pick
 ticked-writable r time l h =
-    either (runOut r time) _ _ (run-out (r .phase) l h) (either (eqb (r .phase) 5) _ Nothing (either (idleDue r time) _ Nothing (sends (r .phase) l h) refl) refl)
+    either Goes-out (runOut r time) _ _ (run-out (r .phase) l h) (either Goes-out (eqb (r .phase) 5) _ Nothing (either Goes-out (idleDue r time) _ Nothing (sends (r .phase) l h) refl) refl)
   where
     sends : (p : ℕ) → 1 ≤ p → p ≤ 5 → writable (ruled Timeout-snd p) ≡ true
     sends p m n = phases (λ (q : ℕ). writable (ruled Timeout-snd q) ≡ true) p m n refl refl refl refl refl

@@ -67,18 +67,20 @@ columns P (suc (suc (suc (suc (suc (suc (suc p))))))) l h a b c d e f = absurd (
 pub phases : (P : ℕ → Type 0) (p : ℕ) → 1 ≤ p → p ≤ 5 → P 1 → P 2 → P 3 → P 4 → P 5 → P p
 phases P p l h a b c d e = columns (λ (q : ℕ). q ≤ 5 → P q) p l (omega arith) (λ _. a) (λ _. b) (λ _. c) (λ _. d) (λ _. e) (λ m. absurd (omega arith)) h
 
--- a tick asks for nothing that needs a telegram
-asks-either : (b : Bool) (v w : Verdict) → onTick v ≡ v → onTick w ≡ w → onTick (pick b v w) ≡ pick b v w
+-- what holds of both verdicts holds of the one that a test picks
+pub either : (P : Verdict → Type 0) (b : Bool) (v w : Verdict) → P v → P w → P (pick b v w)
 unfolding pick
-asks-either true v w p q = p
-asks-either false v w p q = q
+either P true v w p q = p
+either P false v w p q = q
 
+-- a tick asks for nothing that needs a telegram
 pub tick-asks : (r : Record) (time : ℕ) → 1 ≤ r .phase → r .phase ≤ 5 → onTick (ticked r time) ≡ ticked r time
 unfolding ticked runOutVerdict pick
 tick-asks r time l h =
-    asks-either (runOut r time) _ _ (phases (λ (p : ℕ). onTick (runOutVerdict p) ≡ runOutVerdict p) (r .phase) l h refl refl refl refl refl)
-    (asks-either (eqb (r .phase) 5) _ Nothing
-    (asks-either (idleDue r time) _ Nothing (phases (λ (p : ℕ). onTick (ruled Timeout-snd p) ≡ ruled Timeout-snd p) (r .phase) l h refl refl refl refl refl) refl) refl)
+    let own : Verdict → Type 0 = λ v. onTick v ≡ v in
+    either own (runOut r time) _ _ (phases (λ (p : ℕ). onTick (runOutVerdict p) ≡ runOutVerdict p) (r .phase) l h refl refl refl refl refl)
+    (either own (eqb (r .phase) 5) _ Nothing
+    (either own (idleDue r time) _ Nothing (phases (λ (p : ℕ). onTick (ruled Timeout-snd p) ≡ ruled Timeout-snd p) (r .phase) l h refl refl refl refl refl) refl) refl)
 
 -- an incorrect telegram closes in every phase but the closed one
 pub incorrect : (p : ℕ) → 2 ≤ p → p ≤ 5 → Close 0x06 false ≡ ruled Incorrect-rcv-1st p

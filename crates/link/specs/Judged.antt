@@ -133,7 +133,7 @@ runOutVerdict p = pick (eqb p 5) (ruled Timeout-rcv p) (ruled Timeout-brk p)
 unfoldable pub judged : Record → ℕ → ℕ → List ℕ → Verdict
 judged r own time t = pick (runOut r time) (runOutVerdict (r .phase)) (checkedBy (checkOf (endOf r own) (expectedNow r) t) r t)
 
--- What a tick can ask for of a verdict: an idle telegram or a closing. All else needs a telegram.
+-- What a tick can ask for of a verdict, by the three rows of 5.5.1.5 that are timeouts: an idle telegram or a closing. All else needs a telegram.
 abbrev pub onTick : Verdict → Verdict
 onTick SendIdle = SendIdle
 onTick (Close reason last) = Close reason last
