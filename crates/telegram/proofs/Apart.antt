@@ -15,8 +15,8 @@ use Rattle.checkword.proofs.Bytes.{bytes-append, bytes-take}
 use Rattle.checkword.proofs.Facts.{burst-of}
 use Rattle.telegram.specs.Choice.{pick}
 use Rattle.telegram.specs.Levels.{levelOf, width, generator}
-use Rattle.telegram.specs.Commands.{kindOfCommand}
-use Rattle.telegram.specs.Layout.{onBus, values}
+use Rattle.telegram.specs.Commands.{kindOfCommand, known}
+use Rattle.telegram.specs.Layout.{onBus, suits, values}
 use Rattle.telegram.specs.Numbers.{lowestFirst}
 use Rattle.telegram.specs.Ends.{inRange, implicit, receiving}
 use Rattle.telegram.specs.Values.{goodFields}
@@ -63,6 +63,8 @@ pub record Passed (e : End) (m : ℕ) (t : List ℕ) : Type 0 where
   pub in-range : inRange e ≡ true
   pub on-bus : onBus (length t) ≡ true
   pub of-level : sameLevel (levelOf (commandOf t)) (e .level) ≡ true
+  pub of-kind : known (kindOfCommand (commandOf t)) ≡ true
+  pub of-length : suits (kindOfCommand (commandOf t)) (e .level) (length t) ≡ true
   pub byte-1 : eqb (getD t 0 0) (usedFor m t % 256) ≡ true
   pub good-fields : goodFields (kindOfCommand (commandOf t)) (values (kindOfCommand (commandOf t)) t) ≡ true
   pub agrees : wordAgrees e (usedFor m t) t ≡ true
@@ -77,6 +79,8 @@ passed e m t p =
       in-range = ranged .0;
       on-bus = sized .0;
       of-level = all .0;
+      of-kind = all .1 .0;
+      of-length = all .1 .1 .0;
       byte-1 = all .1 .1 .1 .0;
       good-fields = all .1 .1 .1 .1 .0;
       agrees = all .1 .1 .1 .1 .1 .0;
@@ -111,7 +115,7 @@ shown e f u v n h k other p =
     other (omega (arith, at 2)) (omega (arith, at 4)) (omega (arith, at 3))
 
 -- Where two lists differ: anywhere in all of their length ..
-within-all : (a b : List ℕ) → length a ≡ length b → Within (length a) a b
+pub within-all : (a b : List ℕ) → length a ≡ length b → Within (length a) a b
 within-all a b l =
     record {
       start = 0;
@@ -128,7 +132,7 @@ same-behind (x ∷ a) [] s k l e = absurd (omega arith)
 same-behind (x ∷ a) (y ∷ b) s zero l e = e
 same-behind (x ∷ a) (y ∷ b) s (suc k) l e = same-behind a b s k (omega arith) e
 
-within-append : {n : ℕ} {a b : List ℕ} (s : List ℕ) → Within n a b → Within n (a ++ s) (b ++ s)
+pub within-append : {n : ℕ} {a b : List ℕ} (s : List ℕ) → Within n a b → Within n (a ++ s) (b ++ s)
 within-append {n} {a} {b} s w =
     record {
       start = w .start;
@@ -138,7 +142,7 @@ within-append {n} {a} {b} s w =
     }
 
 -- .. and when the same stands before them.
-within-cons : {n x y : ℕ} {a b : List ℕ} → x ≡ y → Within n a b → Within n (x ∷ a) (y ∷ b)
+pub within-cons : {n x y : ℕ} {a b : List ℕ} → x ≡ y → Within n a b → Within n (x ∷ a) (y ∷ b)
 within-cons {n} {x} {y} {a} {b} e w = record { start = suc (w .start); one-length = ap suc (w .one-length); before = before; after = after }
   where
     before : (k : ℕ) → k < suc (w .start) → getD (x ∷ a) k 0 ≡ getD (y ∷ b) k 0
@@ -150,16 +154,16 @@ within-cons {n} {x} {y} {a} {b} e w = record { start = suc (w .start); one-lengt
     after (suc k) h = w .after k (omega arith)
 
 -- What the word covers: bytes ..
-abbrev whole : End → ℕ → ℕ → List ℕ → List ℕ
+abbrev pub whole : End → ℕ → ℕ → List ℕ → List ℕ
 whole e l used t = receiving e used (length t) ++ take (covered l t) t
 
-whole-bytes : (e : End) (l used : ℕ) (t : List ℕ) → Bytes t → Bytes (whole e l used t)
+pub whole-bytes : (e : End) (l used : ℕ) (t : List ℕ) → Bytes t → Bytes (whole e l used t)
 whole-bytes e l used t h =
     bytes-append (receiving e used (length t)) (take (covered l t) t)
     (implicit-bytes (length t) (e .own) (e .partner) (e .«local_sap») (e .«partner_sap») used) (bytes-take (covered l t) t h)
 
 -- .. whose word is the one that came.
-came : (e : End) (l used : ℕ) (t : List ℕ) → e .level ≡ l → wordAgrees e used t ≡ true
+pub came : (e : End) (l used : ℕ) (t : List ℕ) → e .level ≡ l → wordAgrees e used t ≡ true
     → number (drop (covered l t) t) ≡ word (width l) (generator l) (whole e l used t)
 unfolding wordAgrees checkWord
 came e l used t p h =
@@ -239,7 +243,7 @@ number-shown e m n byte count h k p q same =
     (λ h k. joined (2 ^ 8) (m / 256 / 256) (n / 256 / 256) h k (at 6) (λ h k. joined 1 (m / 256 / 256 / 256) (n / 256 / 256 / 256) h k (at 7) (λ h k. omega arith))))
 
 -- What is expected is what is used, but for a connect request or confirm.
-expected-used : (k : Kind) (m : ℕ) (vs : List ℕ) → (k ≡ Request → ⊥) → (k ≡ Confirm → ⊥) → numberUsed k m vs ≡ m
+pub expected-used : (k : Kind) (m : ℕ) (vs : List ℕ) → (k ≡ Request → ⊥) → (k ≡ Confirm → ⊥) → numberUsed k m vs ≡ m
 expected-used Request m vs r c = absurd (r refl)
 expected-used Confirm m vs r c = absurd (c refl)
 expected-used Authentication m vs r c = refl

@@ -47,7 +47,7 @@ unfolding pick
 step b x y z p q = rw p q
 
 -- an end in range: its level is 4 or 2, and the mirrored end is in range
-level-there : (e : End) → inRange e ≡ true → isLevel (e .level) ≡ true
+pub level-there : (e : End) → inRange e ≡ true → isLevel (e .level) ≡ true
 unfolding inRange
 level-there e h = both-true (leb (e .«local_sap») 62) (isLevel (e .level)) (both-true (leb (e .«partner_sap») 62) (pick (leb (e .«local_sap») 62) (isLevel (e .level)) false) (both-true (leb (e .partner) 126) (pick (leb (e .«partner_sap») 62) (pick (leb (e .«local_sap») 62) (isLevel (e .level)) false) false) (both-true (leb (e .own) 126) (pick (leb (e .partner) 126) (pick (leb (e .«partner_sap») 62) (pick (leb (e .«local_sap») 62) (isLevel (e .level)) false) false) false) h .1) .1) .1) .1
 
