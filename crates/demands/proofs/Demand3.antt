@@ -40,7 +40,7 @@ other-partner h t i j two p s l =
     ∙ by-route .only (routeOf (recordAt t i)) h t j (two .table) (two .second) (is-for (recordAt t i) (recordAt t j) (sym p) (sym l) (sym s)))
 
 -- what an end writes passes the check of the mirrored end, at the number that it was written with
-wrote-passes : (e : End) (n : ℕ) (u : List ℕ) → Wrote e n u → checkOf (mirrored e) n u ≡ Passes
+pub wrote-passes : (e : End) (n : ℕ) (u : List ℕ) → Wrote e n u → checkOf (mirrored e) n u ≡ Passes
 wrote-passes e n u (request time net d small bytes w) = request-taken e n time n net d u small bytes w .passes
 wrote-passes e n u (confirm time net d small bytes w) = confirm-taken e n time n net d u small bytes w .passes
 wrote-passes e n u (authentication received d w) = authentication-taken e n received d u w .passes

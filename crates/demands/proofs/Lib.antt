@@ -1,11 +1,16 @@
 pub mod Carried
+pub mod Damage
+pub mod DamageOnTheCable
+pub mod DamagedConnect
 pub mod Demand1
 pub mod Demand2
 pub mod Demand3
 pub mod Demands
+pub mod Echo
 pub mod EveryStep
 pub mod OneEnd
 pub mod Law
+pub mod Linear
 pub mod SetUp
 pub mod Steps
 pub mod Unique

@@ -1,4 +1,7 @@
 pub mod Pairs
+pub mod Damage
+pub mod DamageExamples
+pub mod DamageLimits
 pub mod Demand1
 pub mod Demand2
 pub mod Demand3
