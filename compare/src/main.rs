@@ -1,5 +1,5 @@
 //! Compares the library of proved crates with a second program that is written from the papers. Prints what was compared and how much of it, and fails
-//! where anything differs. With the word `vectors` it runs the published vectors alone.
+//! where anything differs. With the word `vectors` it runs the published vectors alone, with the word `damage` all cases of damage on the cable alone.
 
 mod bus;
 mod bus_run;
@@ -19,6 +19,11 @@ mod clock_rules;
 mod clock_runs;
 mod clocks;
 mod conversations;
+mod damage;
+mod damage_limits;
+mod damage_longer;
+mod damage_runs;
+mod damage_telegrams;
 mod draft;
 mod exchanged_cards;
 mod library;
@@ -54,6 +59,7 @@ mod stations;
 mod tally;
 mod telegram;
 mod telegrams;
+mod unseen;
 mod vectors;
 mod wire;
 mod word;
@@ -62,6 +68,7 @@ mod worked;
 mod write_cases;
 mod wrong;
 mod wrong_calls;
+mod wrong_checks;
 mod wrong_clock;
 mod wrong_clock_tests;
 mod wrong_clocks;
@@ -73,32 +80,41 @@ mod wrong_steps;
 use std::process::ExitCode;
 use tally::Tally;
 
+/// What the papers print, by both programs.
+fn vectors(tally: &mut Tally) {
+    words::vectors(tally);
+    telegrams::vectors(tally);
+}
+
+/// Everything that the gate compares.
+fn all_comparisons(tally: &mut Tally) {
+    vectors(tally);
+    words::wrong_words_are_seen(tally);
+    words::single_bytes(tally);
+    words::random_strings(tally);
+    words::law(tally);
+    words::burst(tally);
+    words::whole_message(tally);
+    telegrams::laid_out_by_hand(tally);
+    telegrams::wrong_programs_are_seen(tally);
+    telegrams::systematic(tally);
+    telegrams::random(tally);
+    damage_runs::compare(&damage_runs::SOME, tally);
+    links::compare_all(tally);
+    nodes::compare_all(tally);
+    clocks::compare_all(tally);
+}
+
 fn main() -> ExitCode {
-    let only_vectors = match std::env::args().nth(1).as_deref() {
-        None => false,
-        Some("vectors") => true,
+    let mut tally = Tally::default();
+    match std::env::args().nth(1).as_deref() {
+        None => all_comparisons(&mut tally),
+        Some("vectors") => vectors(&mut tally),
+        Some("damage") => damage_runs::compare(&damage_runs::ALL, &mut tally),
         Some(other) => {
-            eprintln!("compare: unknown word '{other}'; there is 'vectors', or nothing for all comparisons");
+            eprintln!("compare: unknown word '{other}'; there are 'vectors' and 'damage', or nothing for all comparisons");
             return ExitCode::from(2);
         }
-    };
-    let mut tally = Tally::default();
-    words::vectors(&mut tally);
-    telegrams::vectors(&mut tally);
-    if !only_vectors {
-        words::wrong_words_are_seen(&mut tally);
-        words::single_bytes(&mut tally);
-        words::random_strings(&mut tally);
-        words::law(&mut tally);
-        words::burst(&mut tally);
-        words::whole_message(&mut tally);
-        telegrams::laid_out_by_hand(&mut tally);
-        telegrams::wrong_programs_are_seen(&mut tally);
-        telegrams::systematic(&mut tally);
-        telegrams::random(&mut tally);
-        links::compare_all(&mut tally);
-        nodes::compare_all(&mut tally);
-        clocks::compare_all(&mut tally);
     }
     tally.finish()
 }

@@ -39,6 +39,14 @@ impl Tally {
         self.section = self.compared;
     }
 
+    /// Takes over what another tally has counted.
+    pub fn add(&mut self, other: Tally) {
+        self.vectors += other.vectors;
+        self.random += other.random;
+        self.compared += other.compared;
+        self.failed += other.failed;
+    }
+
     pub fn finish(self) -> ExitCode {
         let Tally {
             vectors,

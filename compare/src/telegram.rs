@@ -38,6 +38,14 @@ impl Level {
         }
     }
 
+    /// The plain number that names the level.
+    pub fn number(self) -> u32 {
+        match self {
+            Level::Sl4 => 4,
+            Level::Sl2 => 2,
+        }
+    }
+
     /// 5.1.1.5, byte 2: the level whose range the command lies in. C0h..FFh is SL 0 and 40h..7Fh is none.
     pub fn of_command(command: u8) -> Option<Level> {
         match command {

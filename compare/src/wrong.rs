@@ -226,7 +226,7 @@ fn cut_numbers() -> Vec<Wrong> {
 }
 
 /// The check with a clause left out.
-fn check_without(left_out: Clause, end: &End, expected: u32, telegram: &[u8]) -> u32 {
+pub fn check_without(left_out: Clause, end: &End, expected: u32, telegram: &[u8]) -> u32 {
     let asked: Vec<Clause> = CLAUSES.into_iter().filter(|clause| *clause != left_out).collect();
     answer(check_by(&asked, end, expected, telegram))
 }
