@@ -5,7 +5,7 @@ use crate::library;
 use crate::program::SECOND;
 use crate::random::Random;
 use crate::tally::Tally;
-use crate::telegram::{End, Kind, Level, Telegram};
+use crate::telegram::{End, Kind, Level, Telegram, KINDS};
 use crate::words::hex;
 
 /// All random numbers of the runs of damage come from this seed.
@@ -13,17 +13,6 @@ pub const SEED: u64 = 0x6461_6D61_6765_0000;
 
 /// In the order in which they are run.
 pub const LEVELS: [Level; 2] = [Level::Sl4, Level::Sl2];
-
-/// In the order of 5.2.1 to 5.2.7.
-const KINDS: [Kind; 7] = [
-    Kind::Request,
-    Kind::Confirm,
-    Kind::Authentication,
-    Kind::Acknowledgement,
-    Kind::Disconnect,
-    Kind::Idle,
-    Kind::Data,
-];
 
 /// What a telegram is before its contents are drawn.
 #[derive(Clone, Copy)]

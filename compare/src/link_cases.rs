@@ -10,7 +10,7 @@ use crate::link_demands::{begun, case, closes, good, records_in, sent, times, Br
 use crate::link_samples::*;
 use crate::link_step::{Event, Record, ACKNOWLEDGEMENT_AWAITED, AUTHENTICATION_AWAITED, CLOSED, CONFIRM_AWAITED, FINALLY_CLOSED};
 use crate::samples::{longest_telegrams, pattern};
-use crate::telegram::{Kind, Telegram};
+use crate::telegram::{Kind, Telegram, KINDS};
 use crate::write_cases::NUMBERS;
 
 /// Every kind of telegram in every phase, good, at times around the limit of the wait or watch.

@@ -15,16 +15,6 @@ pub const PHASES: [u32; 6] = [
     FINALLY_CLOSED,
 ];
 
-pub const KINDS: [Kind; 7] = [
-    Kind::Request,
-    Kind::Confirm,
-    Kind::Authentication,
-    Kind::Acknowledgement,
-    Kind::Disconnect,
-    Kind::Idle,
-    Kind::Data,
-];
-
 /// When the calls are made where the time doesn't matter: no wait and no watch has run out, and no idle is due.
 pub const NOW: u64 = 1_000_000;
 pub const SENT_AT: u64 = NOW - 40;

@@ -92,6 +92,17 @@ pub enum Kind {
     Data,
 }
 
+/// Each of them.
+pub const KINDS: [Kind; 7] = [
+    Kind::Request,
+    Kind::Confirm,
+    Kind::Authentication,
+    Kind::Acknowledgement,
+    Kind::Disconnect,
+    Kind::Idle,
+    Kind::Data,
+];
+
 impl Kind {
     /// 5.1.1.5, byte 2: the kind that the low six bits of a command name. 0Dh is multicast data, which is not taken here.
     pub fn of_command(low_six: u32) -> Option<Kind> {

@@ -64,7 +64,7 @@ within-behind : {n : ℕ} {a b : List ℕ} (s : List ℕ) → Within n a b → W
 within-behind [] w = w
 within-behind (x ∷ s) w = within-cons refl (within-behind s w)
 
--- the theorem: of two telegrams with the same implicit bytes that differ only within n places, one at most passes
+-- of two telegrams with the same implicit bytes that differ only within n places, one at most passes
 pub seen : (e : End) (m n : ℕ) (t u : List ℕ) → 8 * n ≤ width (e .level) → Changed t u → Within n t u
     → receiving e (usedFor m t) (length t) ≡ receiving e (usedFor m u) (length u) → checkOf e m t ≡ Passes → checkOf e m u ≡ Passes → ⊥
 seen e m n t u few changed within same p q =
@@ -119,18 +119,20 @@ fails e m t u changed command p not-passed =
 
 -- Where the changes lie, in the whole telegram
 
+rejoined : (l n : ℕ) (t u : List ℕ) → Within n (bodyOf l t ++ wordOf l t) (bodyOf l u ++ wordOf l u) → Within n t u
+rejoined l n t u within =
+    subst (λ (s : List ℕ). Within n s u) (take-append-drop (covered l t) t)
+    (subst (λ (s : List ℕ). Within n (bodyOf l t ++ wordOf l t) s) (take-append-drop (covered l u) u) within)
+
 in-the-whole : (l n : ℕ) (t u : List ℕ) → Within n (bodyOf l t) (bodyOf l u) → wordOf l t ≡ wordOf l u → Within n t u
 in-the-whole l n t u within same =
-    subst (λ (s : List ℕ). Within n s u) (take-append-drop (covered l t) t)
-    (subst (λ (s : List ℕ). Within n (bodyOf l t ++ wordOf l t) s) (take-append-drop (covered l u) u)
-    (subst (λ (s : List ℕ). Within n (bodyOf l t ++ wordOf l t) (bodyOf l u ++ s)) same (within-append (wordOf l t) within)))
+    rejoined l n t u (subst (λ (s : List ℕ). Within n (bodyOf l t ++ wordOf l t) (bodyOf l u ++ s)) same (within-append (wordOf l t) within))
 
 at-the-end : (l n : ℕ) (t u : List ℕ) → bodyOf l t ≡ bodyOf l u → length (wordOf l t) ≡ n → length (wordOf l u) ≡ n → Within n t u
 at-the-end l n t u same size size′ =
-    subst (λ (s : List ℕ). Within n s u) (take-append-drop (covered l t) t)
-    (subst (λ (s : List ℕ). Within n (bodyOf l t ++ wordOf l t) s) (take-append-drop (covered l u) u)
+    rejoined l n t u
     (subst (λ (s : List ℕ). Within n (bodyOf l t ++ wordOf l t) (s ++ wordOf l u)) same
-    (within-behind (bodyOf l t) (subst (λ (k : ℕ). Within k (wordOf l t) (wordOf l u)) size (within-all (wordOf l t) (wordOf l u) (size ∙ sym size′))))))
+    (within-behind (bodyOf l t) (subst (λ (k : ℕ). Within k (wordOf l t) (wordOf l u)) size (within-all (wordOf l t) (wordOf l u) (size ∙ sym size′)))))
 
 -- Of two telegrams, neither of them a connect request or confirm, one at most passes.
 pub other-seen : (e : End) (m n : ℕ) (t u : List ℕ) → 8 * n ≤ width (e .level) → Other-than-connect t → Other-than-connect u → Changed t u → Within n t u

@@ -5,17 +5,18 @@ use mathlib.Core.Path.{_≡_, refl, sym, ap, _∙_}
 use mathlib.Core.Bool.{Bool, true, false}
 use mathlib.Core.List.{List, []}
 use mathlib.Core.Logic.{_⊎_, inl, inr}
-use Prim.Native.Nat.{ℕ, zero, suc, _+_, _*_, _≤_}
+use Prim.Native.Nat.{ℕ, zero, suc, _+_, _≤_}
 use native.Mathlib.Omega.{arith}
 use lib.ListN.{length, set}
 use lib.Seq.{set-getD}
 use lib.Dec.{eqb}
 use borrow.Author.Tests.{le-leb, le-ltb, ne-eqb}
 use Rattle.telegram.specs.Choice.{pick}
-use Rattle.telegram.specs.Levels.{width, wordLength}
+use Rattle.telegram.specs.Levels.{wordLength}
 use Rattle.telegram.specs.Commands.{kindOfCommand}
 use Rattle.telegram.specs.Ends.{mirrored}
 use Rattle.telegram.specs.Check.{commandOf, checkOf}
+use Rattle.telegram.specs.declared.End.{End}
 use Rattle.telegram.specs.declared.Kind.{Kind}
 use Rattle.telegram.specs.declared.Kind.the-variants.{Request, Confirm, Authentication, Acknowledgement, Disconnect, Idle, Data, Unknown}
 use Rattle.telegram.specs.declared.Clause.{Clause}
@@ -40,7 +41,7 @@ use Rattle.node.specs.Accepted.{nowhere, recordAt}
 use Rattle.node.specs.Matching.{firstMatch}
 use Rattle.node.specs.Calls.Call.{Received}
 use Rattle.node.specs.Plain.{dataOf}
-use Rattle.demands.specs.Damage.{Changed, Damage, Connect, Other-than-connect, Fails, Found, Damage-anywhere-is-found, Same-sort, Damaged-command-is-found, Connect-damage-is-found, Written-damage-is-found, Comes-damaged, Listens, Damage-closes, Damage-closes-both, Damaged-request-is-dropped, Damage-on-the-cable}
+use Rattle.demands.specs.Damage.{Connect, Other-than-connect, Fails, Damage-anywhere-is-found, Same-sort, Damaged-command-is-found, Connect-damage-is-found, Written-damage-is-found, Comes-damaged, Listens, Damage-closes, Damage-closes-both, Damage-is-dropped-when-closed, Damage-on-the-cable}
 use Rattle.demands.specs.Damage.Listens.{set-up, open-here}
 use Rattle.demands.proofs.Carried.{carried}
 use Rattle.demands.proofs.Demand2.{open-in-time, expects, receipt-disconnects, incorrect-closes}
@@ -49,20 +50,20 @@ use Rattle.demands.proofs.Demand3.{wrote-passes}
 use Rattle.demands.proofs.Damage.{still-connect, fails, other-seen, somewhere, damage-is-found, damage-is-found-at-4, damage-is-found-at-2}
 use Rattle.demands.proofs.DamagedConnect.{connect-seen}
 
--- Every telegram is a connect request or confirm, or it isn't: 0 and 1 are the two, 2 is any other kind.
+-- Every telegram is a connect request or confirm (0), or it is another (1).
 abbrev sort : Kind → ℕ
 sort Request = 0
-sort Confirm = 1
-sort Authentication = 2
-sort Acknowledgement = 2
-sort Disconnect = 2
-sort Idle = 2
-sort Data = 2
-sort Unknown = 2
+sort Confirm = 0
+sort Authentication = 1
+sort Acknowledgement = 1
+sort Disconnect = 1
+sort Idle = 1
+sort Data = 1
+sort Unknown = 1
 
-other : (k : Kind) → sort k ≡ 2 → (k ≡ Request) ⊎ (k ≡ Confirm) → ⊥
-other k two (inl e) = omega (arith, ap sort e)
-other k two (inr e) = omega (arith, ap sort e)
+other : (k : Kind) → sort k ≡ 1 → (k ≡ Request) ⊎ (k ≡ Confirm) → ⊥
+other k one (inl e) = omega (arith, ap sort e)
+other k one (inr e) = omega (arith, ap sort e)
 
 either : (k : Kind) → ((k ≡ Request) ⊎ (k ≡ Confirm)) ⊎ ((k ≡ Request) ⊎ (k ≡ Confirm) → ⊥)
 either Request = inl (inl refl)
@@ -91,20 +92,27 @@ unfolding endOf
 damage-anywhere-is-found r own m n t u few changed command within p =
     fails (endOf r own) m t u changed command p (damaged-command-is-found r own m n t u few (sort-by t u command) changed within p)
 
-every-damage-is-found : (r : Record) (own m n : ℕ) (t u : List ℕ) → 8 * n ≤ width (r .level) → Changed t u → commandOf t ≡ commandOf u → Damage n (r .level) t u
-    → Found r own m t u
+pub connect-damage-is-found : Connect-damage-is-found
 unfolding endOf
-every-damage-is-found r own m n t u few changed command damage p =
+connect-damage-is-found r own m n t u few connect changed command damage p =
     let place = somewhere (endOf r own) m n t u few changed damage p in
     damage-anywhere-is-found r own m (place .0) t u (place .1 .0) changed command (place .1 .1) p
 
-pub connect-damage-is-found : Connect-damage-is-found
-connect-damage-is-found r own m n t u few connect = every-damage-is-found r own m n t u few
+-- a connect request or confirm passes at any expected number
+any-number : (e : End) (k m : ℕ) (t : List ℕ) → Connect t → checkOf e k t ≡ checkOf e m t
+unfolding checkOf
+any-number e k m t (inl c) = rw c refl
+any-number e k m t (inr c) = rw c refl
+
+at-expected : (e : End) (k m : ℕ) (t : List ℕ) → Connect t ⊎ (k ≡ m) → checkOf e k t ≡ checkOf e m t
+at-expected e k m t (inl connect) = any-number e k m t connect
+at-expected e k m t (inr same) = rw same
 
 pub written-damage-is-found : Written-damage-is-found
 unfolding endOf
-written-damage-is-found r own m n t u few changed command damage wrote-it =
-    every-damage-is-found r own m n t u few changed command damage (wrote-passes (mirrored (endOf r own)) m t wrote-it)
+written-damage-is-found r own k m n t u few changed command within wrote-it number =
+    damage-anywhere-is-found r own m n t u few changed command within
+    (sym (at-expected (endOf r own) k m t number) ∙ wrote-passes (mirrored (endOf r own)) k t wrote-it)
 
 -- What the receiving node does
 
@@ -121,7 +129,7 @@ comes-failing : (w : Route) (h : Head) (table : List Record) (i : ℕ) (t u : Li
     → Fails (checkOf (endOf (recordAt table i) (h .own)) (expectedNow (recordAt table i)) u)
 comes-failing w h table i t u c =
     let l : ℕ = recordAt table i .level in
-    every-damage-is-found (recordAt table i) (h .own) (expectedNow (recordAt table i)) (wordLength l) t u (omega (arith, width-is l)) (c .changed) (c .command) (c .damage) (c .passes)
+    damage-anywhere-is-found (recordAt table i) (h .own) (expectedNow (recordAt table i)) (wordLength l) t u (omega (arith, width-is l)) (c .changed) (c .command) (c .within) (c .passes)
 
 -- the row of the table for it
 failing-row : (r : Record) (own time : ℕ) (u : List ℕ) → runOut r time ≡ false → Fails (checkOf (endOf r own) (expectedNow r) u)
@@ -198,9 +206,9 @@ closed-in-time : (r : Record) (time : ℕ) → r .phase ≡ 1 → runOut r time 
 unfolding runOut pick
 closed-in-time r time p = rw p refl
 
-pub damaged-request-is-dropped : Damaged-request-is-dropped
+pub damage-is-dropped-when-closed : Damage-is-dropped-when-closed
 unfolding receivedOf receivedOut
-damaged-request-is-dropped w random idle-time t u net h table i time d c phase done =
+damage-is-dropped-when-closed w random idle-time t u net h table i time d c phase done =
     let r = recordAt table (firstMatch w table) in
     let here : recordAt table (firstMatch w table) ≡ recordAt table i = ap (recordAt table) (c .place) in
     let v : judged (recordAt table i) (h .own) time u ≡ Nothing =
@@ -228,5 +236,5 @@ damage-on-the-cable =
       written = written-damage-is-found;
       closes = damage-closes;
       closes-both = damage-closes-both;
-      dropped = damaged-request-is-dropped;
+      dropped = damage-is-dropped-when-closed;
     }

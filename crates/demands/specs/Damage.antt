@@ -1,5 +1,5 @@
 -- Damage on the cable: a telegram that passes the check of a record, changed on its way within as many neighbouring bytes as its check word has, passes it no
--- more; and what the record does with it. DamageExamples.antt has a worked example of each, and DamageLimits.antt what isn't so.
+-- more; and what the record does with it. DamageExamples.antt has worked examples, and DamageLimits.antt what isn't so.
 -- Assumes nothing.
 use mathlib.Core.Path.{_≡_}
 use mathlib.Core.Bool.{false}
@@ -39,7 +39,7 @@ bodyOf l t = take (covered l t) t
 abbrev pub wordOf : ℕ → List ℕ → List ℕ
 wordOf l t = drop (covered l t) t
 
--- A telegram t was changed, and u came: of the same length, and at least one byte differs.
+-- A telegram t was changed, and u came: bytes, of the same length, and at least one differs.
 pub record Changed (t u : List ℕ) : Type 0 where
   pub bytes : Bytes t
   pub came : Bytes u
@@ -100,7 +100,8 @@ abbrev pub Damage-anywhere-is-found : Type 0
 Damage-anywhere-is-found =
     (r : Record) (own m n : ℕ) (t u : List ℕ) → 8 * n ≤ width (r .level) → Changed t u → commandOf t ≡ commandOf u → Within n t u → Found r own m t u
 
--- The command byte may be among them, as long as both telegrams are connect requests or confirms, or neither is.
+-- The command byte may be among them, as long as both telegrams are connect requests or confirms, or neither is: what came then doesn't pass. Every clause can be the one that
+-- fails.
 abbrev pub Same-sort : List ℕ → List ℕ → Type 0
 Same-sort t u = (Connect t → Connect u) × (Connect u → Connect t)
 
@@ -109,21 +110,22 @@ Damaged-command-is-found =
     (r : Record) (own m n : ℕ) (t u : List ℕ) → 8 * n ≤ width (r .level) → Same-sort t u → Changed t u → Within n t u
     → checkOf (endOf r own) m t ≡ Passes → checkOf (endOf r own) m u ≡ Passes → ⊥
 
--- Where the partner's end wrote the telegram, any of the seven, under the number that is expected, that it passes needs not be asked.
+-- Where the partner's end wrote the telegram, any of the seven, that it passes need not be asked: under a number k that is the one expected, or, of a connect request or confirm,
+-- under any random number.
 abbrev pub Written-damage-is-found : Type 0
 Written-damage-is-found =
-    (r : Record) (own m n : ℕ) (t u : List ℕ) → 8 * n ≤ width (r .level) → Changed t u → commandOf t ≡ commandOf u → Damage n (r .level) t u
-    → Wrote (mirrored (endOf r own)) m t → Fails (checkOf (endOf r own) m u)
+    (r : Record) (own k m n : ℕ) (t u : List ℕ) → 8 * n ≤ width (r .level) → Changed t u → commandOf t ≡ commandOf u → Within n t u
+    → Wrote (mirrored (endOf r own)) k t → Connect t ⊎ (k ≡ m) → Fails (checkOf (endOf r own) m u)
 
 -- What the receiving node does then.
 
--- A telegram t for the record at place i would pass its check, at the number that it expects now, and with such damage u comes instead.
+-- A telegram t for the record at place i would pass its check, at the number that it expects now; u comes instead, changed within as many neighbouring bytes as the check word has.
 pub record Comes-damaged (w : Route) (h : Head) (table : List Record) (i : ℕ) (t u : List ℕ) : Type 0 where
   pub place : firstMatch w table ≡ i
   pub passes : checkOf (endAt h table i) (expectedNow (recordAt table i)) t ≡ Passes
   pub changed : Changed t u
   pub command : commandOf t ≡ commandOf u
-  pub damage : Damage (wordLength (recordAt table i .level)) (recordAt table i .level) t u
+  pub within : Within (wordLength (recordAt table i .level)) t u
 
 -- A record whose connection is being set up (2 to 4) or open (5), and whose wait or watch has not run out.
 pub data Listens (r : Record) (time : ℕ) : Type 0 where
@@ -156,9 +158,9 @@ pub record Dropped (l : Left) (table : List Record) (d : List ℕ) : Type 0 wher
   pub same-table : l .table ≡ table
   pub same-buffer : l .out ≡ d
 
--- So it is on a closed record (1): a damaged connect request sets up no connection.
-abbrev pub Damaged-request-is-dropped : Type 0
-Damaged-request-is-dropped =
+-- So it is on a closed record (1), of every telegram: a damaged connect request sets up no connection.
+abbrev pub Damage-is-dropped-when-closed : Type 0
+Damage-is-dropped-when-closed =
     (w : Route) (random : ℕ) (idle-time : IdleTime) (t u net : List ℕ) (h : Head) (table : List Record) (i time : ℕ) (d : List ℕ)
     → Comes-damaged w h table i t u → recordAt table i .phase ≡ 1 → Done (called (Received w random idle-time u net) h table time d)
     → Dropped (called (Received w random idle-time u net) h table time d) table d
@@ -174,4 +176,4 @@ pub record Damage-on-the-cable : Type 0 where
   pub written : Written-damage-is-found
   pub closes : Damage-closes
   pub closes-both : Damage-closes-both
-  pub dropped : Damaged-request-is-dropped
+  pub dropped : Damage-is-dropped-when-closed

@@ -1,4 +1,4 @@
--- Worked examples of damage on the cable: node 1 has an open connection with node 8, which sends it data, and a closed one over which a request comes.
+-- Worked examples of damage on the cable: node 1 and node 8, connected, being set up, or closed; at the end node 8 and node 9.
 -- Assumes nothing.
 use mathlib.Core.Path.{_≡_, refl, sym, ap, _∙_}
 use mathlib.Core.Bool.{Bool, true, false, _&&_}
@@ -16,7 +16,7 @@ use Rattle.telegram.specs.Choice.{pick}
 use Rattle.telegram.specs.Levels.{topBits, width, wordLength, generator, levelOf}
 use Rattle.telegram.specs.Commands.{kindOfCommand, kindOf, isData}
 use Rattle.telegram.specs.Values.{goodIdle, goodDualBus, goodType, listedReason}
-use Rattle.telegram.specs.Ends.{inRange, implicit}
+use Rattle.telegram.specs.Ends.{mirrored, inRange, implicit}
 use Rattle.telegram.specs.Telegrams as telegrams
 use Rattle.telegram.specs.Telegrams.{sealed, body, checkWord}
 use Rattle.telegram.specs.Writers.{refusal, connectAllowed, disconnectAllowed, writesDisconnect}
@@ -26,21 +26,21 @@ use Rattle.telegram.specs.declared.Clause.{Clause}
 use Rattle.telegram.specs.declared.Clause.the-variants as clause
 use Rattle.telegram.specs.declared.Check.the-variants.{Passes, Failed}
 use Rattle.link.specs.Records.{endOf, recordInRange, isPhase, isClosed, atRest, freshOf, become, closedBy}
-use Rattle.link.specs.Times.{watchOver}
-use Rattle.link.specs.Judged.{judged, runOut, expectedNow}
-use Rattle.link.specs.Steps.{firstRefusal, writingStep, receivedRefusal, receivedOf, receivedOut, declaredBy}
+use Rattle.link.specs.Times.{waitOver, watchOver}
+use Rattle.link.specs.Judged.{judged, passed, runOut, expectedNow}
+use Rattle.link.specs.Steps.{firstRefusal, writingStep, receivedRefusal, receivedOf, receivedOut, declaredBy, quietly}
 use Rattle.link.specs.declared.Record.{Record}
-use Rattle.link.specs.declared.Event.the-variants.{Closed}
+use Rattle.link.specs.declared.Event.the-variants.{Nothing, Closed}
 use Rattle.node.specs.declared.Head.{Head}
 use Rattle.node.specs.declared.Route.{Route}
 use Rattle.node.specs.Accepted.{recordAt, accepted, boundsAccepted, recordAccepted}
 use Rattle.node.specs.Calls.{Left, called, asked, settled}
-use Rattle.demands.specs.Pairs.{Done}
-use Rattle.demands.specs.Examples.{exampleRecord, exampleReceipt}
-use Rattle.demands.specs.Demand3.{exampleTelegram4, exampleTelegram2}
-use Rattle.demands.specs.Damage.{Changed, Damage, Other-than-connect, Comes-damaged, Listens}
+use Rattle.demands.specs.Pairs.{Done, Towards, Arrives}
+use Rattle.demands.specs.Examples.{exampleRecord, exampleReceipt, exampleNodes, example-connected, exampleMoment}
+use Rattle.demands.specs.Demand3.{Wrote, exampleTelegram4, exampleTelegram2, example-wrote}
+use Rattle.demands.specs.Damage.{Changed, Damage, Other-than-connect, Same-sort, Comes-damaged, Listens}
 use Rattle.demands.specs.Damage.Damage.{before-the-word, in-the-word}
-use Rattle.demands.specs.Damage.Listens.{open-here}
+use Rattle.demands.specs.Damage.Listens.{set-up, open-here}
 
 -- Node 1's record for node 8 at this level: open, and expecting the number 01234569h.
 abbrev pub exampleOpenAt : ℕ → Record
@@ -73,8 +73,15 @@ exampleNetChanged2 = 0x69 ∷ 0x09 ∷ 0xFE ∷ 0xFD ∷ 0xDD ∷ 0x0E ∷ 0xBC 
 abbrev pub exampleWordChanged2 : List ℕ
 exampleWordChanged2 = 0x69 ∷ 0x09 ∷ 0x01 ∷ 0x02 ∷ 0xDE ∷ 0x0E ∷ 0xBC ∷ 0x70 ∷ []
 
+-- A telegram with six net bytes of 0, all of them changed: the whole window.
+abbrev pub exampleSixSent : List ℕ
+exampleSixSent = 0x69 ∷ 0x89 ∷ 0x00 ∷ 0x00 ∷ 0x00 ∷ 0x00 ∷ 0x00 ∷ 0x00 ∷ 0x96 ∷ 0xD1 ∷ 0xD6 ∷ 0xCB ∷ 0xF2 ∷ 0x39 ∷ []
+
+abbrev pub exampleSixChanged : List ℕ
+exampleSixChanged = 0x69 ∷ 0x89 ∷ 0x11 ∷ 0x22 ∷ 0x33 ∷ 0x44 ∷ 0x55 ∷ 0x66 ∷ 0x96 ∷ 0xD1 ∷ 0xD6 ∷ 0xCB ∷ 0xF2 ∷ 0x39 ∷ []
+
 -- A data telegram is neither connect request nor confirm.
-pub data-is-other : (t : List ℕ) → kindOfCommand (commandOf t) ≡ Data → Other-than-connect t
+data-is-other : (t : List ℕ) → kindOfCommand (commandOf t) ≡ Data → Other-than-connect t
 data-is-other t d (inl e) = let z : _≡_ {A = ℕ} 0 1 = cc in absurd (omega arith)
 data-is-other t d (inr e) = let z : _≡_ {A = ℕ} 0 1 = cc in absurd (omega arith)
 
@@ -111,6 +118,7 @@ within-by n s a b l same rest =
 
 -- Before the check word, where byte 1 is seen by itself, and in the check word; at level 4 and at level 2.
 pub record Examples : Type 0 where
+  pub whole-window-at-4 : Example 4 6 exampleSixSent exampleSixChanged clause.Word
   pub net-at-4 : Example 4 6 exampleTelegram4 exampleNetChanged4 clause.Word
   pub number-at-4 : Example 4 6 exampleTelegram4 exampleNumberChanged4 clause.Number
   pub word-at-4 : Example 4 6 exampleTelegram4 exampleWordChanged4 clause.Word
@@ -121,6 +129,15 @@ pub examples : Examples
 unfolding checkOf wordAgrees inRange levelOf checkWord implicit width wordLength generator generator48 generator32 shift feed kindOf isData endOf pick
 examples =
     record {
+      whole-window-at-4 =
+          record {
+            other = data-is-other exampleSixSent refl;
+            changed = changed-at 2 exampleSixSent exampleSixChanged tt tt refl (λ e. omega arith);
+            command = refl;
+            damage = before-the-word (within-by 6 2 _ _ refl refl refl) refl;
+            passes = refl;
+            fails = refl;
+          };
       net-at-4 =
           record {
             other = data-is-other exampleTelegram4 refl;
@@ -168,6 +185,45 @@ examples =
           };
     }
 
+-- Anywhere: the last net byte and the first five of the check word; and the command byte with the first net byte, so that another data telegram comes.
+abbrev pub exampleAcross4 : List ℕ
+exampleAcross4 = 0x69 ∷ 0x89 ∷ 0x01 ∷ 0xFD ∷ 0x7C ∷ 0x95 ∷ 0x4F ∷ 0xC1 ∷ 0xCD ∷ 0x22 ∷ []
+
+abbrev pub exampleCommandChanged4 : List ℕ
+exampleCommandChanged4 = 0x69 ∷ 0xA9 ∷ 0xFE ∷ 0x02 ∷ 0x83 ∷ 0x6A ∷ 0xB0 ∷ 0x3E ∷ 0x32 ∷ 0x22 ∷ []
+
+pub record Anywhere-example (u : List ℕ) : Type 0 where
+  pub changed : Changed exampleTelegram4 u
+  pub same-sort : Same-sort exampleTelegram4 u
+  pub within : Within 6 exampleTelegram4 u
+  pub fails : checkOf (endOf (exampleOpenAt 4) 1) 0x01234569 u ≡ Failed clause.Word
+
+-- Both are data, and so of one sort.
+both-data : (t u : List ℕ) → kindOfCommand (commandOf t) ≡ Data → kindOfCommand (commandOf u) ≡ Data → Same-sort t u
+both-data t u d e = (λ c. absurd (data-is-other t d c), λ c. absurd (data-is-other u e c))
+
+pub examples-anywhere : Anywhere-example exampleAcross4 × Anywhere-example exampleCommandChanged4
+unfolding checkOf wordAgrees inRange levelOf checkWord implicit width wordLength generator generator48 shift feed kindOf isData endOf pick
+examples-anywhere = (
+  record {
+    changed = changed-at 3 exampleTelegram4 exampleAcross4 tt tt refl (λ e. omega arith);
+    same-sort = both-data exampleTelegram4 exampleAcross4 refl refl;
+    within = within-by 6 3 _ _ refl refl refl;
+    fails = refl;
+  },
+  record {
+    changed = changed-at 1 exampleTelegram4 exampleCommandChanged4 tt tt refl (λ e. omega arith);
+    same-sort = both-data exampleTelegram4 exampleCommandChanged4 refl refl;
+    within = within-by 6 1 _ _ refl refl refl;
+    fails = refl;
+  },
+)
+
+-- The telegrams are what node 8 writes under the number that node 1 expects.
+pub example-written : Wrote (mirrored (endOf (exampleOpenAt 4) 1)) 0x01234569 exampleTelegram4 × Wrote (mirrored (endOf (exampleOpenAt 2) 1)) 0x01234569 exampleTelegram2
+unfolding freshOf endOf
+example-written = example-wrote
+
 -- What node 1 does with it at time 1300: the damaged telegram arrives from node 8, as the only record of its table expects it ..
 abbrev pub exampleHead : Head
 exampleHead = record { own = 1; latest = 1000 }
@@ -180,8 +236,8 @@ pub example-comes :
     × Comes-damaged exampleRoute exampleHead (exampleOpenAt 2 ∷ []) 0 exampleTelegram2 exampleNetChanged2
 unfolding expectedNow checkOf wordAgrees inRange levelOf checkWord implicit width wordLength generator generator48 generator32 shift feed kindOf isData endOf pick
 example-comes = (
-  record { place = refl; passes = refl; changed = examples .net-at-4 .changed; command = refl; damage = examples .net-at-4 .damage },
-  record { place = refl; passes = refl; changed = examples .net-at-2 .changed; command = refl; damage = examples .net-at-2 .damage },
+  record { place = refl; passes = refl; changed = examples .net-at-4 .changed; command = refl; within = within-by 6 2 _ _ refl refl refl },
+  record { place = refl; passes = refl; changed = examples .net-at-2 .changed; command = refl; within = within-by 4 2 _ _ refl refl refl },
 )
 
 -- .. and in time.
@@ -202,6 +258,47 @@ pub example-turned-away : Turned-away-example (exampleLeft 4 exampleNetChanged4)
 unfolding called asked settled accepted boundsAccepted recordAccepted recordInRange endOf inRange isPhase isClosed goodIdle atRest firstRefusal writingStep refusal receivedRefusal receivedOf receivedOut declaredBy connectAllowed judged runOut watchOver expectedNow checkOf wordAgrees levelOf disconnectAllowed goodType listedReason writesDisconnect telegrams.disconnect closedBy become sealed body checkWord implicit topBits width wordLength generator generator48 generator32 shift feed kindOf isData pick
 example-turned-away = (record { done = refl; says = refl; writes = refl; phase = refl }, record { done = refl; says = refl; writes = refl; phase = refl })
 
+-- During set-up: node 1 awaits the authentication of 5.3.1.7, 68h 83h F0h CDh ABh 89h with its check word 20h 2Ah 5Dh E9h BAh 6Dh, and its last byte before the check word comes
+-- changed, 5,000 after node 1 sent its confirm. That is in time, and closes with 06h, not with 03h and not finally.
+abbrev pub exampleAwaiting : Record
+exampleAwaiting =
+    record {
+      partner = 8;
+      «partner_sap» = 3;
+      «local_sap» = 3;
+      level = 4;
+      phase = 3;
+      sending = 0x89ABCDF0;
+      expected = 0x01234568;
+      declared = 500;
+      watched = 500;
+      «sent_at» = 1000;
+      «taken_at» = 1000;
+    }
+
+abbrev pub exampleAuthentication : List ℕ
+exampleAuthentication = 0x68 ∷ 0x83 ∷ 0xF0 ∷ 0xCD ∷ 0xAB ∷ 0x89 ∷ 0x20 ∷ 0x2A ∷ 0x5D ∷ 0xE9 ∷ 0xBA ∷ 0x6D ∷ []
+
+abbrev pub exampleAuthenticationChanged : List ℕ
+exampleAuthenticationChanged = 0x68 ∷ 0x83 ∷ 0xF0 ∷ 0xCD ∷ 0xAB ∷ 0x8A ∷ 0x20 ∷ 0x2A ∷ 0x5D ∷ 0xE9 ∷ 0xBA ∷ 0x6D ∷ []
+
+pub example-in-set-up :
+    Comes-damaged exampleRoute exampleHead (exampleAwaiting ∷ []) 0 exampleAuthentication exampleAuthenticationChanged
+    × Listens exampleAwaiting 6000
+    × Turned-away-example (called (exampleReceipt 8 exampleAuthenticationChanged) exampleHead (exampleAwaiting ∷ []) 6000 (replicate 244 0))
+unfolding called asked settled accepted boundsAccepted recordAccepted recordInRange endOf inRange isPhase isClosed goodIdle atRest firstRefusal writingStep refusal receivedRefusal receivedOf receivedOut declaredBy connectAllowed judged runOut waitOver expectedNow checkOf wordAgrees levelOf disconnectAllowed goodType listedReason writesDisconnect telegrams.disconnect closedBy become sealed body checkWord implicit topBits width wordLength generator generator48 shift feed kindOf isData pick
+example-in-set-up = (
+  record {
+    place = refl;
+    passes = refl;
+    changed = changed-at 5 exampleAuthentication exampleAuthenticationChanged tt tt refl (λ e. omega arith);
+    command = refl;
+    within = within-by 6 5 _ _ refl refl refl;
+  },
+  set-up (lit≤ tt) (lit≤ tt) (lit≤ tt),
+  record { done = refl; says = refl; writes = refl; phase = refl },
+)
+
 -- A connect request at level 2 with the random number 01234569h and the idle time 500, and what comes of it when bytes 5 to 8 change by 06h 29h 5Fh 72h: the check word agrees with
 -- the new random number 28254569h, and the idle time 29611 is what fails.
 abbrev pub exampleRequest2 : List ℕ
@@ -221,7 +318,7 @@ example-request-comes =
       passes = refl;
       changed = changed-at 4 exampleRequest2 exampleRequestChanged2 tt tt refl (λ e. omega arith);
       command = refl;
-      damage = before-the-word (within-by 4 4 _ _ refl refl refl) refl;
+      within = within-by 4 4 _ _ refl refl refl;
     }
 
 pub example-request-fails :
@@ -229,3 +326,35 @@ pub example-request-fails :
     × (wordAgrees (endOf exampleClosed 1) 0x28254569 exampleRequestChanged2 ≡ true)
 unfolding goodIdle goodDualBus checkOf wordAgrees inRange levelOf checkWord implicit width wordLength generator generator32 shift feed kindOf isData freshOf endOf pick
 example-request-fails = (refl, refl)
+
+-- The call with it is done, and nothing happens.
+abbrev pub exampleDropped : Left
+exampleDropped = called (exampleReceipt 8 exampleRequestChanged2) exampleHead (exampleClosed ∷ []) 1300 (replicate 244 0)
+
+pub example-dropped : Done exampleDropped × (exampleDropped .outcome .event ≡ Nothing) × (exampleDropped .table ≡ exampleClosed ∷ [])
+unfolding called asked settled accepted boundsAccepted recordAccepted recordInRange endOf inRange isPhase isClosed goodIdle goodDualBus atRest firstRefusal refusal receivedRefusal receivedOf receivedOut declaredBy connectAllowed judged runOut expectedNow checkOf wordAgrees levelOf quietly checkWord implicit width wordLength generator generator32 shift feed kindOf isData freshOf pick
+example-dropped = (refl, refl, refl)
+
+-- Both ends: node 9 sends data to node 8 under the number 89ABCDF1h, its net bytes come changed, and the disconnect of node 8 arrives at node 9.
+abbrev pub exampleBack : List ℕ
+exampleBack = 0xF1 ∷ 0x89 ∷ 0x01 ∷ 0x02 ∷ 0x91 ∷ 0xE7 ∷ 0x23 ∷ 0xD7 ∷ 0x30 ∷ 0xD2 ∷ []
+
+abbrev pub exampleBackChanged : List ℕ
+exampleBackChanged = 0xF1 ∷ 0x89 ∷ 0xFE ∷ 0xFD ∷ 0x91 ∷ 0xE7 ∷ 0x23 ∷ 0xD7 ∷ 0x30 ∷ 0xD2 ∷ []
+
+pub example-both-ends :
+    Towards (exampleNodes 4) 0 0
+    × Comes-damaged (record { sender = 9; «destination_sap» = 3; «source_sap» = 3 }) (exampleNodes 4 .head) (exampleNodes 4 .table) 0 exampleBack exampleBackChanged
+    × Arrives (exampleNodes 4) 0 0 (exampleReceipt 9 exampleBackChanged) (exampleMoment 1300)
+unfolding called asked settled accepted boundsAccepted recordAccepted recordInRange endOf inRange isPhase isClosed goodIdle atRest firstRefusal writingStep refusal receivedRefusal receivedOf receivedOut declaredBy connectAllowed judged passed runOut watchOver expectedNow checkOf wordAgrees levelOf disconnectAllowed goodType listedReason writesDisconnect telegrams.disconnect closedBy become quietly sealed body checkWord implicit topBits width wordLength generator generator48 shift feed kindOf isData pick
+example-both-ends = (
+  example-connected 1000 4 .towards,
+  record {
+    place = refl;
+    passes = refl;
+    changed = changed-at 2 exampleBack exampleBackChanged tt tt refl (λ e. omega arith);
+    command = refl;
+    within = within-by 6 2 _ _ refl refl refl;
+  },
+  record { done = refl; taken = refl; in-time = λ some. lit≤ tt },
+)
