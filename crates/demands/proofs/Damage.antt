@@ -10,7 +10,7 @@ use native.Mathlib.Omega.{arith}
 use lib.ListN.{length, getD, length-drop, take-append-drop}
 use lib.Dec.{eqb}
 use Rattle.checkword.specs.Bytes.{Bytes, Within}
-use Rattle.checkword.specs.Word.{word}
+use Rattle.checkword.specs.Word.{word, Agrees}
 use Rattle.checkword.proofs.Bytes.{bytes-append, bytes-drop}
 use Rattle.checkword.proofs.Facts.{burst-of, agrees-by-remainder}
 use Rattle.telegram.specs.Choice.{pick}
@@ -26,20 +26,25 @@ use Rattle.telegram.specs.declared.Check.{Check}
 use Rattle.telegram.specs.declared.Check.the-variants.{Passes, Failed}
 use Rattle.telegram.proofs.Widths.{width-is, word-some, six, generator-good}
 use Rattle.telegram.proofs.Refusals.{suits-room}
-use Rattle.telegram.proofs.ReadBack.{implicit-bytes}
 use Rattle.telegram.proofs.Apart.{Passed, passed, whole, whole-bytes, came, within-all, within-append, within-cons, expected-used}
 use Rattle.link.specs.Records.{endOf}
 use Rattle.link.specs.declared.Record.{Record}
-use Rattle.demands.specs.Damage.{bodyOf, wordOf, Changed, Damage, Connect, Other-than-connect, Fails, Found, Damage-is-found, Damage-is-found-at-4, Damage-is-found-at-2}
+use Rattle.demands.specs.Damage.{Seen-over-the-width, bodyOf, wordOf, Changed, Damage, Connect, Other-than-connect, Fails, Found, Damage-is-found, Damage-is-found-at-4, Damage-is-found-at-2}
 use Rattle.demands.specs.Damage.Damage.{before-the-word, in-the-word}
 
--- A telegram behind its implicit bytes, as its check word covers it, and with its check word.
+pub seen-over-the-width : Seen-over-the-width
+seen-over-the-width w g n k good size few a b c d ha hb hc hd lc ld within differ p q =
+    burst-of w g good n few (a ++ c) (b ++ d) (bytes-append a c ha hc) (bytes-append b d hb hd) within differ
+    (agrees-by-remainder w g good k size a c ha hc lc .0 p ∙ sym (agrees-by-remainder w g good k size b d hb hd ld .0 q))
+
+-- A telegram behind its implicit bytes, with its check word: what is covered, and the check word.
 abbrev pub message : End → ℕ → List ℕ → List ℕ
 message e used t = receiving e used (length t) ++ t
 
-message-bytes : (e : End) (used : ℕ) (t : List ℕ) → Bytes t → Bytes (message e used t)
-message-bytes e used t h =
-    bytes-append (receiving e used (length t)) t (implicit-bytes (length t) (e .own) (e .partner) (e .«local_sap») (e .«partner_sap») used) h
+joined : (e : End) (l used : ℕ) (t : List ℕ) → whole e l used t ++ wordOf l t ≡ message e used t
+joined e l used t =
+    append-assoc (receiving e used (length t)) (bodyOf l t) (wordOf l t)
+    ∙ ap {B = List ℕ} (λ (s : List ℕ). receiving e used (length t) ++ s) (take-append-drop (covered l t) t)
 
 -- the check word that came has the bytes of its level, where there is room for it
 word-size : (l : ℕ) (t : List ℕ) → wordLength l ≤ length t → length (wordOf l t) ≡ wordLength l
@@ -48,16 +53,28 @@ word-size l t h = omega (arith, length-drop (covered l t) t)
 has-room : (e : End) (m : ℕ) (t : List ℕ) → Passed e m t → wordLength (e .level) ≤ length t
 has-room e m t p = omega (arith, suits-room (kindOfCommand (commandOf t)) (e .level) (length t) (p .of-length))
 
--- what passes leaves 0 (10.2.1.2)
-pub leaves-nothing : (e : End) (m : ℕ) (t : List ℕ) → Bytes t → checkOf e m t ≡ Passes → word (width (e .level)) (generator (e .level)) (message e (usedFor m t) t) ≡ 0
-leaves-nothing e m t bytes p =
-    let l : ℕ = e .level in
-    let used : ℕ = usedFor m t in
-    let joined : whole e l used t ++ wordOf l t ≡ message e used t =
-    append-assoc (receiving e used (length t)) (bodyOf l t) (wordOf l t) ∙ ap {B = List ℕ} (λ (s : List ℕ). receiving e used (length t) ++ s) (take-append-drop (covered l t) t) in
-    sym (ap (word (width l) (generator l)) joined)
-    ∙ agrees-by-remainder (width l) (generator l) (generator-good l) (wordLength l) (width-is l) (whole e l used t) (wordOf l t) (whole-bytes e l used t bytes)
-    (bytes-drop (covered l t) t bytes) (word-size l t (has-room e m t (passed e m t p))) .0 (came e l used t refl (passed e m t p .agrees))
+-- What a telegram that passes says at its level's width: the sizes, and that its check word agrees.
+module _ (e : End) (m : ℕ) (t : List ℕ) (bytes : Bytes t) (p : checkOf e m t ≡ Passes) where
+  abbrev l : ℕ
+  l = e .level
+
+  covered-bytes : Bytes (whole e l (usedFor m t) t)
+  covered-bytes = whole-bytes e l (usedFor m t) t bytes
+
+  word-bytes : Bytes (wordOf l t)
+  word-bytes = bytes-drop (covered l t) t bytes
+
+  size : length (wordOf l t) ≡ wordLength l
+  size = word-size l t (has-room e m t (passed e m t p))
+
+  agrees : Agrees (width l) (generator l) (whole e l (usedFor m t) t) (wordOf l t)
+  agrees = came e l (usedFor m t) t refl (passed e m t p .agrees)
+
+  -- so the whole leaves 0 (10.2.1.2)
+  pub leaves-nothing : word (width l) (generator l) (message e (usedFor m t) t) ≡ 0
+  leaves-nothing =
+      sym (ap (word (width l) (generator l)) (joined e l (usedFor m t) t))
+      ∙ agrees-by-remainder (width l) (generator l) (generator-good l) (wordLength l) (width-is l) (whole e l (usedFor m t) t) (wordOf l t) covered-bytes word-bytes size .0 agrees
 
 -- what differs only within n places still does behind the same bytes
 within-behind : {n : ℕ} {a b : List ℕ} (s : List ℕ) → Within n a b → Within n (s ++ a) (s ++ b)
@@ -68,11 +85,16 @@ within-behind (x ∷ s) w = within-cons refl (within-behind s w)
 pub seen : (e : End) (m n : ℕ) (t u : List ℕ) → 8 * n ≤ width (e .level) → Changed t u → Within n t u
     → receiving e (usedFor m t) (length t) ≡ receiving e (usedFor m u) (length u) → checkOf e m t ≡ Passes → checkOf e m u ≡ Passes → ⊥
 seen e m n t u few changed within same p q =
-    let l : ℕ = e .level in
+    let ht = changed .bytes in
+    let hu = changed .came in
     let before : List ℕ = receiving e (usedFor m u) (length u) in
-    burst-of (width l) (generator l) (generator-good l) n few (before ++ t) (before ++ u) (rw same at (message-bytes e (usedFor m t) t (changed .bytes)))
-    (message-bytes e (usedFor m u) u (changed .came)) (within-behind before within) (λ one. changed .differs (append-cancel-left before t u one))
-    ((rw same at (leaves-nothing e m t (changed .bytes) p)) ∙ sym (leaves-nothing e m u (changed .came) q))
+    let t-is : whole e (e .level) (usedFor m t) t ++ wordOf (e .level) t ≡ before ++ t =
+    joined e (e .level) (usedFor m t) t ∙ ap {B = List ℕ} (λ (s : List ℕ). s ++ t) same in
+    let u-is : whole e (e .level) (usedFor m u) u ++ wordOf (e .level) u ≡ before ++ u = joined e (e .level) (usedFor m u) u in
+    seen-over-the-width (width (e .level)) (generator (e .level)) n (wordLength (e .level)) (generator-good (e .level)) (width-is (e .level)) few
+    (whole e (e .level) (usedFor m t) t) (whole e (e .level) (usedFor m u) u) (wordOf (e .level) t) (wordOf (e .level) u) (covered-bytes e m t ht p)
+    (covered-bytes e m u hu q) (word-bytes e m t ht p) (word-bytes e m u hu q) (size e m t ht p) (size e m u hu q) (rw (t-is, u-is) (within-behind before within))
+    (λ one. changed .differs (append-cancel-left before t u (sym t-is ∙ one ∙ u-is))) (agrees e m t ht p) (agrees e m u hu q)
 
 -- What a telegram is used with
 

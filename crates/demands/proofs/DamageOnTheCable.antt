@@ -47,7 +47,7 @@ use Rattle.demands.proofs.Carried.{carried}
 use Rattle.demands.proofs.Demand2.{open-in-time, expects, receipt-disconnects, incorrect-closes}
 use Rattle.demands.proofs.OneEnd.{receipt-closes}
 use Rattle.demands.proofs.Demand3.{wrote-passes}
-use Rattle.demands.proofs.Damage.{still-connect, fails, other-seen, somewhere, damage-is-found, damage-is-found-at-4, damage-is-found-at-2}
+use Rattle.demands.proofs.Damage.{seen-over-the-width, still-connect, fails, other-seen, somewhere, damage-is-found, damage-is-found-at-4, damage-is-found-at-2}
 use Rattle.demands.proofs.DamagedConnect.{connect-seen}
 
 -- Every telegram is a connect request or confirm (0), or it is another (1).
@@ -227,7 +227,8 @@ damage-is-dropped-when-closed w random idle-time t u net h table i time d c phas
 pub damage-on-the-cable : Damage-on-the-cable
 damage-on-the-cable =
     record {
-      over-the-width = damage-is-found;
+      over-the-width = seen-over-the-width;
+      at-each-level = damage-is-found;
       at-4 = damage-is-found-at-4;
       at-2 = damage-is-found-at-2;
       anywhere = damage-anywhere-is-found;

@@ -3,11 +3,13 @@
 -- Assumes nothing.
 use mathlib.Core.Path.{_≡_}
 use mathlib.Core.Bool.{false}
-use mathlib.Core.List.{List, []}
+use mathlib.Core.List.{List, [], _++_}
 use mathlib.Core.Logic.{_⊎_}
 use Prim.Native.Nat.{ℕ, _+_, _*_, _≤_}
 use lib.ListN.{length, take, drop}
 use Rattle.checkword.specs.Bytes.{Bytes, Within}
+use Rattle.checkword.specs.Polynomial.{Generator}
+use Rattle.checkword.specs.Word.{Agrees}
 use Rattle.telegram.specs.Levels.{width, wordLength}
 use Rattle.telegram.specs.Commands.{kindOfCommand}
 use Rattle.telegram.specs.Ends.{mirrored}
@@ -31,6 +33,13 @@ use Rattle.node.specs.Plain.{dataOf}
 use Rattle.demands.specs.Pairs.{Done, In-time, Nodes, Towards, Moment, sent, got, Arrives}
 use Rattle.demands.specs.Demand2.{Is-closed, Closed-with}
 use Rattle.demands.specs.Demand3.{Wrote, endAt}
+
+-- Over the width. For any width w and its generator g: two strings of bytes, each with a check word of w bits behind it, that differ, and only within n neighbouring bytes, as many
+-- as the width has room for, don't both agree with their check words.
+abbrev pub Seen-over-the-width : Type 0
+Seen-over-the-width =
+    (w g n k : ℕ) → Generator w g → w ≡ 8 * k → 8 * n ≤ w → (a b c d : List ℕ) → Bytes a → Bytes b → Bytes c → Bytes d → length c ≡ k → length d ≡ k
+    → Within n (a ++ c) (b ++ d) → (a ++ c ≡ b ++ d → ⊥) → Agrees w g a c → Agrees w g b d → ⊥
 
 -- The bytes before the check word of a telegram of level l, and its check word.
 abbrev pub bodyOf : ℕ → List ℕ → List ℕ
@@ -68,8 +77,8 @@ Fails c = (c ≡ Failed clause.Number) ⊎ ((c ≡ Failed clause.Fields) ⊎ (c 
 abbrev pub Found : Record → ℕ → ℕ → List ℕ → List ℕ → Type 0
 Found r own m t u = checkOf (endOf r own) m t ≡ Passes → Fails (checkOf (endOf r own) m u)
 
--- The request, over the width: a telegram that passes is changed within n neighbouring bytes before its check word, as many as the width has room for, or in its check word,
--- leaving length and command byte. Then it is found.
+-- The request, at the width of the record's level: a telegram that passes is changed within n neighbouring bytes before its check word, as many as the width has room for, or in
+-- its check word, leaving length and command byte. Then it is found.
 abbrev pub Damage-is-found : Type 0
 Damage-is-found =
     (r : Record) (own m n : ℕ) (t u : List ℕ) → 8 * n ≤ width (r .level) → Other-than-connect t → Changed t u → commandOf t ≡ commandOf u → Damage n (r .level) t u
@@ -165,9 +174,10 @@ Damage-is-dropped-when-closed =
     → Comes-damaged w h table i t u → recordAt table i .phase ≡ 1 → Done (called (Received w random idle-time u net) h table time d)
     → Dropped (called (Received w random idle-time u net) h table time d) table d
 
--- All of it. The first three are the request; the others are what a user may ask next.
+-- All of it. The first four are the request; the others are what a user may ask next.
 pub record Damage-on-the-cable : Type 0 where
-  pub over-the-width : Damage-is-found
+  pub over-the-width : Seen-over-the-width
+  pub at-each-level : Damage-is-found
   pub at-4 : Damage-is-found-at-4
   pub at-2 : Damage-is-found-at-2
   pub connect : Connect-damage-is-found
