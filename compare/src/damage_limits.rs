@@ -9,7 +9,7 @@ use crate::program::FAILED;
 use crate::random::Random;
 use crate::tally::Tally;
 use crate::telegram::{implicit, sealed, Kind, Level};
-use crate::unseen::unseen;
+use crate::unseen::{rank, single_bits, unseen};
 use crate::words::hex;
 
 /// 5.1.3.4: how many implicit bytes stand before a telegram under its check word, and which of them the number gives.
@@ -171,6 +171,30 @@ const KEEP_THE_WORD: [Kept; 5] = [
     Kept { level: Level::Sl2, start: 4, bits: &[0x0C, 0x52, 0xBE, 0xE4], found_by: Clause::Fields },
 ];
 
+/// The places of the random number's upper bytes, which are implicit bytes too, among the twelve bytes of a request's header.
+const ECHOED: [usize; 3] = [3, 4, 5];
+
+/// How many changes there are in as many neighbouring bytes of a request's or confirm's header from this one on, its command left, that keep its check word right.
+fn keeping_the_word(level: Level, start: usize) -> usize {
+    let generator = level.generator();
+    let window: Vec<usize> = (start..start + generator.bytes()).filter(|byte| *byte != COMMAND).collect();
+    let changes = single_bits(Kind::Request.header(), &window).map(|change| [ECHOED.map(|byte| change[byte]).as_slice(), &change].concat());
+    (1 << (8 * window.len() - rank(generator, changes))) - 1
+}
+
+/// There are just those that are named: each is as long as the window, and so lies in one window only.
+fn hold_no_others(tally: &mut Tally) {
+    for level in LEVELS {
+        for start in 0..=Kind::Request.header() - level.generator().bytes() {
+            let named = KEEP_THE_WORD.iter().filter(|kept| kept.level == level && kept.start == start).count();
+            let counted = keeping_the_word(level, start);
+            tally.hold(counted == named, || {
+                format!("{level:?}: {counted} changes from byte {} on keep the word, {named} are named", start + 1)
+            });
+        }
+    }
+}
+
 /// A telegram with such a change fails, and by that clause, while its check word agrees.
 fn found_without_the_word(kept: &Kept, kind: Kind, length: usize, random: &mut Random, tally: &mut Tally) {
     let level = kept.level;
@@ -193,6 +217,7 @@ pub fn compare(tally: &mut Tally) {
         LEVELS.into_iter().for_each(|level| run(&limit, level, &mut random, tally));
     }
     tally.told("damage, not promised: another expected number, a check word made anew, another command; by both programs, which pass");
+    hold_no_others(tally);
     for kept in KEEP_THE_WORD {
         for kind in [Kind::Request, Kind::Confirm] {
             for length in kind.lengths(kept.level) {
@@ -200,5 +225,5 @@ pub fn compare(tally: &mut Tally) {
             }
         }
     }
-    tally.told("damage, request and confirm: the five changes that keep the check word right fail by the number or the idle time");
+    tally.told("damage, request and confirm: the five changes, and no others, that keep the check word right fail by the number or the idle time");
 }

@@ -7,7 +7,7 @@ use crate::program::FAILED;
 use crate::random::Random;
 use crate::tally::Tally;
 use crate::telegram::Level;
-use crate::unseen::rank;
+use crate::unseen::{rank, single_bits};
 use crate::word::{word, Generator};
 
 /// How many telegrams are drawn at each level, and how many bursts in each.
@@ -60,7 +60,8 @@ fn products(generator: Generator) -> impl Iterator<Item = Vec<u8>> {
 /// changes have the word 0, the products and no change at all.
 fn missed(level: Level, random: &mut Random, tally: &mut Tally) {
     let (generator, count) = (level.generator(), level.generator().bytes() + 1);
-    tally.hold(rank(generator, count) == generator.width as usize, || {
+    let all: Vec<usize> = (0..count).collect();
+    tally.hold(rank(generator, single_bits(count, &all)) == generator.width as usize, || {
         format!("more than 255 changes of {count} bytes are missed")
     });
     for _ in 0..MISSED_IN {

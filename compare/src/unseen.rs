@@ -13,13 +13,11 @@ struct Independent {
 }
 
 impl Independent {
-    /// Those among the single bits of these bytes in strings of this length.
-    fn of_bits(generator: Generator, length: usize, bytes: &[usize]) -> Independent {
+    /// Those among these differences.
+    fn among(generator: Generator, differences: impl Iterator<Item = Vec<u8>>) -> Independent {
         let mut independent = Independent { generator, kept: Vec::new() };
-        for (byte, bit) in bytes.iter().flat_map(|byte| (0..8).map(move |bit| (*byte, bit))) {
-            let mut single = vec![0; length];
-            single[byte] = 1 << bit;
-            let rest = independent.rest(single);
+        for difference in differences {
+            let rest = independent.rest(difference);
             if rest.0 != 0 {
                 independent.kept.push(rest);
             }
@@ -39,14 +37,22 @@ impl Independent {
     }
 }
 
+/// The single bits of these bytes in strings of this length.
+pub fn single_bits(length: usize, bytes: &[usize]) -> impl Iterator<Item = Vec<u8>> + '_ {
+    bytes.iter().flat_map(|byte| (0..8).map(move |bit| (*byte, bit))).map(move |(byte, bit)| {
+        let mut single = vec![0; length];
+        single[byte] = 1 << bit;
+        single
+    })
+}
+
 /// The difference changed in these bytes alone so that its word is 0, if there is such a one.
 pub fn unseen(generator: Generator, difference: Vec<u8>, free: &[usize]) -> Option<Vec<u8>> {
-    let (word, changed) = Independent::of_bits(generator, difference.len(), free).rest(difference);
+    let (word, changed) = Independent::among(generator, single_bits(difference.len(), free)).rest(difference);
     Some(changed).filter(|_| word == 0)
 }
 
-/// How many of the bits of so many bytes have independent words. Each bit more doubles the number of differences whose word is 0.
-pub fn rank(generator: Generator, bytes: usize) -> usize {
-    let all: Vec<usize> = (0..bytes).collect();
-    Independent::of_bits(generator, bytes, &all).kept.len()
+/// How many of these differences have independent words. Each one more doubles the number of their exclusive-ors whose word is 0.
+pub fn rank(generator: Generator, differences: impl Iterator<Item = Vec<u8>>) -> usize {
+    Independent::among(generator, differences).kept.len()
 }

@@ -97,7 +97,7 @@ Damage-is-found-at-2 =
     → Found r own m t u
 
 -- Connect requests and confirms. They are checked with their own random number, whose upper 24 bits, bytes 4 to 6, are implicit bytes too, so that a change there is one at
--- two places. It is found all the same. The check word alone misses five such changes: one at each level after which byte 3 is not byte 1 any more, and three at level 2, in
+-- two places. It is found all the same. The check word alone misses five such changes, as docs/DAMAGE.md lists them: one at each level after which byte 3 is not byte 1 any more, and three at level 2, in
 -- bytes 5 to 8, after which the idle time is no multiple of 100.
 abbrev pub Connect-damage-is-found : Type 0
 Connect-damage-is-found =

@@ -55,8 +55,8 @@ pub record Example (level n : ℕ) (t u : List ℕ) (c : Clause) : Type 0 where
   pub passes : checkOf (endOf (exampleOpenAt level) 1) 0x01234569 t ≡ Passes
   pub fails : checkOf (endOf (exampleOpenAt level) 1) 0x01234569 u ≡ Failed c
 
--- The data telegram of node 8, 69h 89h 01h 02h and the check word 83h 6Ah B0h 3Eh 32h 22h, with both net bytes changed; with its first byte; and with two bytes of its check
--- word.
+-- The data telegram of node 8, 69h 89h 01h 02h and the check word 83h 6Ah B0h 3Eh 32h 22h, with both net bytes changed; with its first byte changed; and with two bytes of
+-- its check word changed.
 abbrev pub exampleNetChanged4 : List ℕ
 exampleNetChanged4 = 0x69 ∷ 0x89 ∷ 0xFE ∷ 0xFD ∷ 0x83 ∷ 0x6A ∷ 0xB0 ∷ 0x3E ∷ 0x32 ∷ 0x22 ∷ []
 
@@ -125,64 +125,23 @@ pub record Examples : Type 0 where
   pub net-at-2 : Example 2 4 exampleTelegram2 exampleNetChanged2 clause.Word
   pub word-at-2 : Example 2 4 exampleTelegram2 exampleWordChanged2 clause.Word
 
+-- One of them, of a data telegram that differs at place k.
+data-example : (level n k : ℕ) (t u : List ℕ) (c : Clause) → kindOfCommand (commandOf t) ≡ Data → T (areBytes t) → T (areBytes u) → length t ≡ length u
+    → (getD t k 0 ≡ getD u k 0 → ⊥) → commandOf t ≡ commandOf u → Damage n level t u → checkOf (endOf (exampleOpenAt level) 1) 0x01234569 t ≡ Passes
+    → checkOf (endOf (exampleOpenAt level) 1) 0x01234569 u ≡ Failed c → Example level n t u c
+data-example level n k t u c kind ht hu l differ command damage passes fails =
+    record { other = data-is-other t kind; changed = changed-at k t u ht hu l differ; command = command; damage = damage; passes = passes; fails = fails }
+
 pub examples : Examples
 unfolding checkOf wordAgrees inRange levelOf checkWord implicit width wordLength generator generator48 generator32 shift feed kindOf isData endOf pick
 examples =
     record {
-      whole-window-at-4 =
-          record {
-            other = data-is-other exampleSixSent refl;
-            changed = changed-at 2 exampleSixSent exampleSixChanged tt tt refl (λ e. omega arith);
-            command = refl;
-            damage = before-the-word (within-by 6 2 _ _ refl refl refl) refl;
-            passes = refl;
-            fails = refl;
-          };
-      net-at-4 =
-          record {
-            other = data-is-other exampleTelegram4 refl;
-            changed = changed-at 2 exampleTelegram4 exampleNetChanged4 tt tt refl (λ e. omega arith);
-            command = refl;
-            damage = before-the-word (within-by 6 0 _ _ refl refl refl) refl;
-            passes = refl;
-            fails = refl;
-          };
-      number-at-4 =
-          record {
-            other = data-is-other exampleTelegram4 refl;
-            changed = changed-at 0 exampleTelegram4 exampleNumberChanged4 tt tt refl (λ e. omega arith);
-            command = refl;
-            damage = before-the-word (within-by 6 0 _ _ refl refl refl) refl;
-            passes = refl;
-            fails = refl;
-          };
-      word-at-4 =
-          record {
-            other = data-is-other exampleTelegram4 refl;
-            changed = changed-at 4 exampleTelegram4 exampleWordChanged4 tt tt refl (λ e. omega arith);
-            command = refl;
-            damage = in-the-word refl;
-            passes = refl;
-            fails = refl;
-          };
-      net-at-2 =
-          record {
-            other = data-is-other exampleTelegram2 refl;
-            changed = changed-at 2 exampleTelegram2 exampleNetChanged2 tt tt refl (λ e. omega arith);
-            command = refl;
-            damage = before-the-word (within-by 4 0 _ _ refl refl refl) refl;
-            passes = refl;
-            fails = refl;
-          };
-      word-at-2 =
-          record {
-            other = data-is-other exampleTelegram2 refl;
-            changed = changed-at 4 exampleTelegram2 exampleWordChanged2 tt tt refl (λ e. omega arith);
-            command = refl;
-            damage = in-the-word refl;
-            passes = refl;
-            fails = refl;
-          };
+      whole-window-at-4 = data-example 4 6 2 exampleSixSent exampleSixChanged clause.Word refl tt tt refl (λ e. omega arith) refl (before-the-word (within-by 6 2 _ _ refl refl refl) refl) refl refl;
+      net-at-4 = data-example 4 6 2 exampleTelegram4 exampleNetChanged4 clause.Word refl tt tt refl (λ e. omega arith) refl (before-the-word (within-by 6 2 _ _ refl refl refl) refl) refl refl;
+      number-at-4 = data-example 4 6 0 exampleTelegram4 exampleNumberChanged4 clause.Number refl tt tt refl (λ e. omega arith) refl (before-the-word (within-by 6 0 _ _ refl refl refl) refl) refl refl;
+      word-at-4 = data-example 4 6 4 exampleTelegram4 exampleWordChanged4 clause.Word refl tt tt refl (λ e. omega arith) refl (in-the-word refl) refl refl;
+      net-at-2 = data-example 2 4 2 exampleTelegram2 exampleNetChanged2 clause.Word refl tt tt refl (λ e. omega arith) refl (before-the-word (within-by 4 2 _ _ refl refl refl) refl) refl refl;
+      word-at-2 = data-example 2 4 4 exampleTelegram2 exampleWordChanged2 clause.Word refl tt tt refl (λ e. omega arith) refl (in-the-word refl) refl refl;
     }
 
 -- Anywhere: the last net byte and the first five of the check word; and the command byte with the first net byte, so that another data telegram comes.

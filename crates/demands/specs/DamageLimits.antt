@@ -4,6 +4,8 @@ use mathlib.Core.Path.{_≡_, refl}
 use mathlib.Core.List.{List, [], _∷_}
 use Prim.Native.Nat.{ℕ}
 use native.Mathlib.Omega.{arith}
+use lib.ListN.{length, getD}
+use lib.Dec.{T}
 use Rattle.checkword.specs.Bytes.{Within}
 use Rattle.checkword.specs.Generators.{generator48, generator32}
 use Rattle.checkword.specs.Word.{shift, feed}
@@ -19,13 +21,18 @@ use Rattle.link.specs.Records.{endOf}
 use Rattle.demands.specs.Demand3.{exampleTelegram4, exampleTelegram2}
 use Rattle.demands.specs.Damage.{Changed, Damage}
 use Rattle.demands.specs.Damage.Damage.{before-the-word}
-use Rattle.demands.specs.DamageExamples.{exampleOpenAt, exampleSixSent, changed-at, within-by}
+use Rattle.demands.specs.DamageExamples.{exampleOpenAt, exampleSixSent, areBytes, changed-at, within-by}
 
 -- A telegram t passes the check of node 1's record for node 8 at the number m; it was changed, and what came passes it at the number m′.
 pub record Missed (level m m′ : ℕ) (t u : List ℕ) : Type 0 where
   pub changed : Changed t u
   pub passes : checkOf (endOf (exampleOpenAt level) 1) m t ≡ Passes
   pub passes-too : checkOf (endOf (exampleOpenAt level) 1) m′ u ≡ Passes
+
+-- Such a pair, which differs at place k.
+missed-at : (level m m′ k : ℕ) (t u : List ℕ) → T (areBytes t) → T (areBytes u) → length t ≡ length u → (getD t k 0 ≡ getD u k 0 → ⊥)
+    → checkOf (endOf (exampleOpenAt level) 1) m t ≡ Passes → checkOf (endOf (exampleOpenAt level) 1) m′ u ≡ Passes → Missed level m m′ t u
+missed-at level m m′ k t u ht hu l differ p q = record { changed = changed-at k t u ht hu l differ; passes = p; passes-too = q }
 
 -- What is not missing: the command byte is left, and the number is the same ..
 pub record Missed-by-place (level : ℕ) (t u : List ℕ) : Type 0 where
@@ -61,8 +68,8 @@ pub one-byte-longer :
     (Missed-by-place 4 sevenSent sevenChanged × Damage 7 4 sevenSent sevenChanged) × (Missed-by-place 2 fiveSent fiveChanged × Damage 5 2 fiveSent fiveChanged)
 unfolding checkOf wordAgrees inRange levelOf checkWord implicit width wordLength generator generator48 generator32 shift feed kindOf isData endOf pick
 one-byte-longer = (
-  (record { missed = record { changed = changed-at 2 sevenSent sevenChanged tt tt refl (λ e. omega arith); passes = refl; passes-too = refl }; command = refl }, before-the-word (within-by 7 2 _ _ refl refl refl) refl),
-  (record { missed = record { changed = changed-at 2 fiveSent fiveChanged tt tt refl (λ e. omega arith); passes = refl; passes-too = refl }; command = refl }, before-the-word (within-by 5 2 _ _ refl refl refl) refl),
+  (record { missed = missed-at 4 0x01234569 0x01234569 2 sevenSent sevenChanged tt tt refl (λ e. omega arith) refl refl; command = refl }, before-the-word (within-by 7 2 _ _ refl refl refl) refl),
+  (record { missed = missed-at 2 0x01234569 0x01234569 2 fiveSent fiveChanged tt tt refl (λ e. omega arith) refl refl; command = refl }, before-the-word (within-by 5 2 _ _ refl refl refl) refl),
 )
 
 -- Another expected number. Six net bytes, and four at level 2, can be changed so that what came passes at 01234669h, 256 later; byte 1 says the same.
@@ -78,8 +85,8 @@ fourChanged = 0x69 ∷ 0x09 ∷ 0x00 ∷ 0x62 ∷ 0x82 ∷ 0x7F ∷ 0x7F ∷ 0x0
 pub another-number : Missed-by-number 4 6 exampleSixSent sixChanged × Missed-by-number 2 4 fourSent fourChanged
 unfolding checkOf wordAgrees inRange levelOf checkWord implicit width wordLength generator generator48 generator32 shift feed kindOf isData endOf pick
 another-number = (
-  record { missed = record { changed = changed-at 2 exampleSixSent sixChanged tt tt refl (λ e. omega arith); passes = refl; passes-too = refl }; command = refl; damage = before-the-word (within-by 6 2 _ _ refl refl refl) refl },
-  record { missed = record { changed = changed-at 3 fourSent fourChanged tt tt refl (λ e. omega arith); passes = refl; passes-too = refl }; command = refl; damage = before-the-word (within-by 4 2 _ _ refl refl refl) refl },
+  record { missed = missed-at 4 0x01234569 0x01234669 2 exampleSixSent sixChanged tt tt refl (λ e. omega arith) refl refl; command = refl; damage = before-the-word (within-by 6 2 _ _ refl refl refl) refl },
+  record { missed = missed-at 2 0x01234569 0x01234669 3 fourSent fourChanged tt tt refl (λ e. omega arith) refl refl; command = refl; damage = before-the-word (within-by 4 2 _ _ refl refl refl) refl },
 )
 
 -- One byte before the check word, and the check word with it, worked out anew: together they are one byte too many. 83h 6Ah B0h 3Eh 32h 22h is the check word of 69h 89h 01h 02h,
@@ -94,8 +101,8 @@ pub before-and-in-the-word :
     (Missed-by-place 4 exampleTelegram4 wordAnew4 × Within 7 exampleTelegram4 wordAnew4) × (Missed-by-place 2 exampleTelegram2 wordAnew2 × Within 5 exampleTelegram2 wordAnew2)
 unfolding checkOf wordAgrees inRange levelOf checkWord implicit width wordLength generator generator48 generator32 shift feed kindOf isData endOf pick
 before-and-in-the-word = (
-  (record { missed = record { changed = changed-at 3 exampleTelegram4 wordAnew4 tt tt refl (λ e. omega arith); passes = refl; passes-too = refl }; command = refl }, within-by 7 3 _ _ refl refl refl),
-  (record { missed = record { changed = changed-at 3 exampleTelegram2 wordAnew2 tt tt refl (λ e. omega arith); passes = refl; passes-too = refl }; command = refl }, within-by 5 3 _ _ refl refl refl),
+  (record { missed = missed-at 4 0x01234569 0x01234569 3 exampleTelegram4 wordAnew4 tt tt refl (λ e. omega arith) refl refl; command = refl }, within-by 7 3 _ _ refl refl refl),
+  (record { missed = missed-at 2 0x01234569 0x01234569 3 exampleTelegram2 wordAnew2 tt tt refl (λ e. omega arith) refl refl; command = refl }, within-by 5 3 _ _ refl refl refl),
 )
 
 -- The command byte among the changes, so that a data telegram becomes a connect request: that is checked with its own random number. Six neighbouring bytes at level 4 ..
@@ -115,14 +122,14 @@ requestTelegram2 = 0x69 ∷ 0x00 ∷ 0x69 ∷ 0x45 ∷ 0x23 ∷ 0x01 ∷ 0xF4 �
 pub becomes-a-request : Missed-by-command 4 6 0x01614569 dataTelegram4 requestTelegram4 × Missed-by-command 2 4 0x013B4469 dataTelegram2 requestTelegram2
 unfolding goodIdle goodDualBus checkOf wordAgrees inRange levelOf checkWord implicit width wordLength generator generator48 generator32 shift feed kindOf isData endOf pick
 becomes-a-request = (
-  record { missed = record { changed = changed-at 1 dataTelegram4 requestTelegram4 tt tt refl (λ e. omega arith); passes = refl; passes-too = refl }; damage = before-the-word (within-by 6 1 _ _ refl refl refl) refl },
-  record { missed = record { changed = changed-at 1 dataTelegram2 requestTelegram2 tt tt refl (λ e. omega arith); passes = refl; passes-too = refl }; damage = before-the-word (within-by 4 1 _ _ refl refl refl) refl },
+  record { missed = missed-at 4 0x01614569 0x01614569 1 dataTelegram4 requestTelegram4 tt tt refl (λ e. omega arith) refl refl; damage = before-the-word (within-by 6 1 _ _ refl refl refl) refl },
+  record { missed = missed-at 2 0x013B4469 0x013B4469 1 dataTelegram2 requestTelegram2 tt tt refl (λ e. omega arith) refl refl; damage = before-the-word (within-by 4 1 _ _ refl refl refl) refl },
 )
 
 -- And the other way round: a connect request comes as data, and passes where the record expects just this number. On an open connection its net data are handed up.
 pub comes-as-data : Missed-by-command 4 6 0x01614569 requestTelegram4 dataTelegram4 × Missed-by-command 2 4 0x013B4469 requestTelegram2 dataTelegram2
 unfolding goodIdle goodDualBus checkOf wordAgrees inRange levelOf checkWord implicit width wordLength generator generator48 generator32 shift feed kindOf isData endOf pick
 comes-as-data = (
-  record { missed = record { changed = changed-at 1 requestTelegram4 dataTelegram4 tt tt refl (λ e. omega arith); passes = refl; passes-too = refl }; damage = before-the-word (within-by 6 1 _ _ refl refl refl) refl },
-  record { missed = record { changed = changed-at 1 requestTelegram2 dataTelegram2 tt tt refl (λ e. omega arith); passes = refl; passes-too = refl }; damage = before-the-word (within-by 4 1 _ _ refl refl refl) refl },
+  record { missed = missed-at 4 0x01614569 0x01614569 1 requestTelegram4 dataTelegram4 tt tt refl (λ e. omega arith) refl refl; damage = before-the-word (within-by 6 1 _ _ refl refl refl) refl },
+  record { missed = missed-at 2 0x013B4469 0x013B4469 1 requestTelegram2 dataTelegram2 tt tt refl (λ e. omega arith) refl refl; damage = before-the-word (within-by 4 1 _ _ refl refl refl) refl },
 )
