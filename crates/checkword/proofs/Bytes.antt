@@ -2,12 +2,13 @@
 -- Assumes nothing.
 use mathlib.Core.Path.{_≡_, refl, sym, ap, ap₂, _∙_, subst}
 use mathlib.Core.List.{List, [], _∷_, _++_}
-use Prim.Native.Nat.{ℕ, zero, suc, _+_, _*_, _/_, _%_, _^_, _<_}
-use native.Mathlib.Nat.{mod-eq-of-lt, zero-lt-suc, mod-lt, mod-one}
+use Prim.Native.Nat.{ℕ, zero, suc, _+_, _*_, _/_, _%_, _^_, _≤_, _<_, min}
+use native.Mathlib.Nat.{add-zero, zero-add, add-assoc, add-mul, zero-mul, mul-one, mul-assoc, mod-eq-of-lt, zero-lt-suc, mod-lt, mod-one}
 use native.Mathlib.Omega.{arith}
 use lib.Arith.{digits-lt}
 use lib.Pow.{pow-add, high, low, mod-pow-add}
-use lib.ListN.{length, take, drop, getD}
+use lib.ListN.{length, take, drop, getD, length-append, length-take, length-drop}
+use lib.Seq.{drop-cons, drop-drop, take-add}
 use Rattle.checkword.specs.Bytes.{Bytes, number, bytesOf}
 
 pub bytes-of : (a : List ℕ) → ((k : ℕ) → getD a k 0 < 256) → Bytes a
@@ -34,6 +35,18 @@ number-lt (b ∷ bs) h =
     let e : 2 ^ (8 * suc (length bs)) ≡ 256 * 2 ^ (8 * length bs) =
     ap (λ (n : ℕ). 2 ^ n) (omega arith) ∙ pow-add 2 8 (8 * length bs) in
     subst (λ (x : ℕ). b * 2 ^ (8 * length bs) + number bs < x) (sym e) (digits-lt (h .0) (number-lt bs (h .1)))
+
+pub number-append : (x y : List ℕ) → number (x ++ y) ≡ number x * 2 ^ (8 * length y) + number y
+number-append [] y = sym (ap (λ (n : ℕ). n + number y) (zero-mul (2 ^ (8 * length y))) ∙ zero-add (number y))
+number-append (b ∷ x) y =
+    let count : 8 * (length x + length y) ≡ 8 * length x + 8 * length y = omega arith in
+    ap₂ (λ (n m : ℕ). b * 2 ^ (8 * n) + m) (length-append x y) (number-append x y)
+    ∙ ap (λ (n : ℕ). b * n + (number x * 2 ^ (8 * length y) + number y))
+    (ap (λ (n : ℕ). 2 ^ n) count ∙ pow-add 2 (8 * length x) (8 * length y))
+    ∙ ap (λ (n : ℕ). n + (number x * 2 ^ (8 * length y) + number y)) (sym (mul-assoc b (2 ^ (8 * length x)) (2 ^ (8 * length y))))
+    ∙ sym
+    (ap (λ (n : ℕ). n + number y) (add-mul (b * 2 ^ (8 * length x)) (number x) (2 ^ (8 * length y)))
+    ∙ add-assoc (b * 2 ^ (8 * length x) * 2 ^ (8 * length y)) (number x * 2 ^ (8 * length y)) (number y))
 
 pub number-inj : (a b : List ℕ) → length a ≡ length b → Bytes a → Bytes b → number a ≡ number b → a ≡ b
 number-inj [] [] l ha hb e = refl
@@ -72,3 +85,39 @@ bytesOf-number n c l h =
     let same : length (bytesOf n (number c)) ≡ length c = bytesOf-length n (number c) ∙ sym l in
     let fits : number c < 2 ^ (8 * n) = subst (λ (m : ℕ). number c < 2 ^ (8 * m)) l (number-lt c h) in
     number-inj (bytesOf n (number c)) c same (bytesOf-bytes n (number c)) h (number-bytesOf n (number c) ∙ mod-eq-of-lt fits)
+
+-- The number of the bytes from place i on, byte by byte.
+pub number-from : (a : List ℕ) (i j n : ℕ) → j ≡ i + 1 → i + suc n ≤ length a
+    → number (take (suc n) (drop i a)) ≡ getD a i 0 * 2 ^ (8 * n) + number (take n (drop j a))
+number-from a i j n e h =
+    let size : length (take n (drop (suc i) a)) ≡ n = length-take n (drop (suc i) a) ∙ ap (min n) (length-drop (suc i) a) ∙ omega arith in
+    let next : suc i ≡ j = omega arith in
+    ap (λ (l : List ℕ). number (take (suc n) l)) (drop-cons a i 0 (omega arith))
+    ∙ ap₂ (λ (k m : ℕ). getD a i 0 * 2 ^ (8 * k) + number (take n (drop m a))) size next
+
+pub one-number : (a : List ℕ) (i : ℕ) → i < length a → number (take 1 (drop i a)) ≡ getD a i 0
+one-number a i h = number-from a i (i + 1) 0 refl (omega arith) ∙ add-zero (getD a i 0 * 1) ∙ mul-one (getD a i 0)
+
+pub two-number : (a : List ℕ) (i : ℕ) → i + 2 ≤ length a → number (take 2 (drop i a)) ≡ getD a i 0 * 0x100 + getD a (i + 1) 0
+two-number a i h = number-from a i (i + 1) 1 refl h ∙ ap (λ (n : ℕ). getD a i 0 * 0x100 + n) (one-number a (i + 1) (omega arith))
+
+pub four-number : (a : List ℕ) (i : ℕ) → i + 4 ≤ length a
+    → number (take 4 (drop i a)) ≡ getD a i 0 * 0x100_0000 + getD a (i + 1) 0 * 0x1_0000 + getD a (i + 2) 0 * 0x100 + getD a (i + 3) 0
+four-number a i h =
+    let one : number (take 1 (drop (i + 3) a)) ≡ getD a (i + 3) 0 = one-number a (i + 3) (omega arith) in
+    let two : number (take 2 (drop (i + 2) a)) ≡ getD a (i + 2) 0 * 0x100 + number (take 1 (drop (i + 3) a)) =
+    number-from a (i + 2) (i + 3) 1 (omega arith) (omega arith) in
+    let three : number (take 3 (drop (i + 1) a)) ≡ getD a (i + 1) 0 * 0x1_0000 + number (take 2 (drop (i + 2) a)) =
+    number-from a (i + 1) (i + 2) 2 (omega arith) (omega arith) in
+    let four : number (take 4 (drop i a)) ≡ getD a i 0 * 0x100_0000 + number (take 3 (drop (i + 1) a)) =
+    number-from a i (i + 1) 3 refl h in
+    omega (arith, one, two, three, four)
+
+-- Four bytes and four more.
+pub eight-number : (a : List ℕ) (i : ℕ) → i + 8 ≤ length a
+    → number (take 8 (drop i a)) ≡ number (take 4 (drop i a)) * 2 ^ 32 + number (take 4 (drop (i + 4) a))
+eight-number a i h =
+    let size : length (take 4 (drop (i + 4) a)) ≡ 4 = length-take 4 (drop (i + 4) a) ∙ ap (min 4) (length-drop (i + 4) a) ∙ omega arith in
+    ap number (take-add 4 4 (drop i a) ∙ ap {B = List ℕ} (λ (l : List ℕ). take 4 (drop i a) ++ take 4 l) (drop-drop 4 i a))
+    ∙ number-append (take 4 (drop i a)) (take 4 (drop (i + 4) a))
+    ∙ ap (λ (k : ℕ). number (take 4 (drop i a)) * 2 ^ (8 * k) + number (take 4 (drop (i + 4) a))) size

@@ -9,11 +9,12 @@ use native.Mathlib.Nat.{zero-mul, zero-add, mul-one, mul-assoc, mul-right-comm, 
 use native.Mathlib.Omega.{arith}
 use lib.Pow.{pow-pos, pow-add}
 use lib.ListN.{length}
-use lib.Bits.{bitXor, xor-zero-r, xor-self, xor-shr, xor-shifted, xor-lt}
+use lib.Bits.{bitXor, xor-zero-r, xor-self, xor-comm, xor-shr, xor-shifted, xor-lt}
 use Rattle.checkword.specs.Bytes.{Bytes, number}
 use Rattle.checkword.specs.Polynomial.{times, Generator, Remainder}
 use Rattle.checkword.specs.Word.{fallen, shift, feed, run, word}
 use Rattle.checkword.proofs.Xor.{xor-assoc, xor-swap, xor-twice, xor-mul}
+use Rattle.checkword.proofs.Bytes.{number-lt}
 use Rattle.checkword.proofs.Shift.{shifts}
 use Rattle.checkword.proofs.Run.{feed-is, feed-lt, run-lt}
 
@@ -31,12 +32,12 @@ times-up g [] = refl
 times-up g (e ∷ es) = ap₂ bitXor (sym (double-pow g e)) (times-up g es) ∙ sym (xor-mul (g * 2 ^ e) (times es g) 1)
 
 -- a and b leave one remainder: their difference, which is their exclusive-or, is a multiple of g
-record Same (g a b : ℕ) : Type 0 where
-  quotient : List ℕ
-  exact : bitXor a b ≡ times quotient g
+pub record Same (g a b : ℕ) : Type 0 where
+  pub quotient : List ℕ
+  pub exact : bitXor a b ≡ times quotient g
 
 module _ (g : ℕ) where
-  same-refl : (a : ℕ) → Same g a a
+  pub same-refl : (a : ℕ) → Same g a a
   same-refl a = record { quotient = []; exact = xor-self a }
 
   same-trans : {a b c : ℕ} → Same g a b → Same g b c → Same g a c
@@ -48,7 +49,7 @@ module _ (g : ℕ) where
             ∙ sym (times-append g (p .quotient) (q .quotient));
       }
 
-  same-eq : {a b c d : ℕ} → a ≡ c → b ≡ d → Same g a b → Same g c d
+  pub same-eq : {a b c d : ℕ} → a ≡ c → b ≡ d → Same g a b → Same g c d
   same-eq e f p = record { quotient = p .quotient; exact = sym (ap₂ bitXor e f) ∙ p .exact }
 
   same-add : {a b : ℕ} (c : ℕ) → Same g a b → Same g (bitXor a c) (bitXor b c)
@@ -57,6 +58,9 @@ module _ (g : ℕ) where
         quotient = p .quotient;
         exact = xor-swap a c b c ∙ ap (bitXor (bitXor a b)) (xor-self c) ∙ xor-zero-r (bitXor a b) ∙ p .exact;
       }
+
+  pub same-both : {a b c d : ℕ} → Same g a b → Same g c d → Same g (bitXor a c) (bitXor b d)
+  same-both {a} {b} {c} {d} p q = same-trans (same-add c p) (same-eq (xor-comm c b) (xor-comm d b) (same-add b q))
 
   same-double : {a b : ℕ} → Same g a b → Same g (a * 2) (b * 2)
   same-double {a} {b} p =
@@ -79,26 +83,11 @@ module _ (g : ℕ) where
       let f = fallen-times (r * 2 / 2 ^ w) in
       record { quotient = f .0; exact = xor-twice (r * 2) (fallen g (r * 2 / 2 ^ w)) ∙ f .1 }
 
-  shifts-same : (w n r : ℕ) → Same g (r * 2 ^ n) (shifts w g n r)
+  pub shifts-same : (w n r : ℕ) → Same g (r * 2 ^ n) (shifts w g n r)
   shifts-same w zero r = same-eq (sym (mul-one r)) refl (same-refl r)
   shifts-same w (suc n) r =
       let e : r * 2 * 2 ^ n ≡ r * 2 ^ suc n = mul-right-comm r 2 (2 ^ n) ∙ double-pow r n in
       same-trans (same-eq e refl (same-up n (shift-same w r))) (shifts-same w n (shift w g r))
-
--- The number that the bytes write, byte by byte from the highest on.
-value : ℕ → List ℕ → ℕ
-value v [] = v
-value v (b ∷ bs) = value (v * 2 ^ 8 + b) bs
-
-value-is : (bs : List ℕ) (v : ℕ) → value v bs ≡ v * 2 ^ (8 * length bs) + number bs
-unfolding value
-value-is [] v = omega arith
-value-is (b ∷ bs) v =
-    let count : 8 + 8 * length bs ≡ 8 * suc (length bs) = omega arith in
-    value-is bs (v * 2 ^ 8 + b) ∙ ap (λ (x : ℕ). x + number bs) (add-mul (v * 2 ^ 8) b (2 ^ (8 * length bs)))
-    ∙ add-assoc (v * 2 ^ 8 * 2 ^ (8 * length bs)) (b * 2 ^ (8 * length bs)) (number bs)
-    ∙ ap (λ (x : ℕ). x + (b * 2 ^ (8 * length bs) + number bs))
-    (mul-assoc v (2 ^ 8) (2 ^ (8 * length bs)) ∙ ap (λ (x : ℕ). v * x) (sym (pow-add 2 8 (8 * length bs)) ∙ ap (λ (n : ℕ). 2 ^ n) count))
 
 module _ (w g : ℕ) (good : Generator w g) where
   feed-same : (r b : ℕ) → r < 2 ^ w → b < 256 → Same g (bitXor (r * 2 ^ 8) (b * 2 ^ w)) (feed w g r b)
@@ -108,28 +97,44 @@ module _ (w g : ℕ) (good : Generator w g) where
       same-eq g (xor-mul r (b * 2 ^ (w - 8)) 8 ∙ ap (bitXor (r * 2 ^ 8)) e) (sym (feed-is w g good r b hr hb))
       (shifts-same g w 8 (bitXor r (b * 2 ^ (w - 8))))
 
-  run-same : (bs : List ℕ) (v r : ℕ) → r < 2 ^ w → Bytes bs → Same g (v * 2 ^ w) r → Same g (value v bs * 2 ^ w) (run w g r bs)
-  unfolding value
-  run-same [] v r hr h p = p
-  run-same (b ∷ bs) v r hr h p =
-      let e : bitXor (v * 2 ^ w * 2 ^ 8) (b * 2 ^ w) ≡ (v * 2 ^ 8 + b) * 2 ^ w =
-      ap (λ (x : ℕ). bitXor x (b * 2 ^ w)) (mul-right-comm v (2 ^ w) (2 ^ 8)) ∙ sym (xor-mul (v * 2 ^ 8) b w)
-      ∙ ap (λ (x : ℕ). x * 2 ^ w) (xor-shifted v 8 b (h .0)) in
-      run-same bs (v * 2 ^ 8 + b) (feed w g r b) (feed-lt w g good r b hr (h .0)) (h .1)
-      (same-trans g (same-eq g e refl (same-add g (b * 2 ^ w) (same-up g 8 p))) (feed-same r b hr (h .0)))
+  -- the register after the bytes leaves the remainder of what it was, moved up by the bytes, and of the bytes
+  pub run-same : (bs : List ℕ) (r : ℕ) → r < 2 ^ w → Bytes bs → Same g (bitXor (r * 2 ^ (8 * length bs)) (number bs * 2 ^ w)) (run w g r bs)
+  run-same [] r hr h = same-eq g (sym (ap₂ bitXor (mul-one r) (zero-mul (2 ^ w)) ∙ xor-zero-r r)) refl (same-refl g r)
+  run-same (b ∷ bs) r hr h =
+      same-trans g (same-eq g joined refl (same-add g (number bs * 2 ^ w) (same-up g (8 * length bs) (feed-same r b hr (h .0)))))
+      (run-same bs (feed w g r b) (feed-lt w g good r b hr (h .0)) (h .1))
+    where
+      up : r * 2 ^ 8 * 2 ^ (8 * length bs) ≡ r * 2 ^ (8 * suc (length bs))
+      up =
+          mul-assoc r (2 ^ 8) (2 ^ (8 * length bs))
+          ∙ ap (λ (x : ℕ). r * x) (sym (pow-add 2 8 (8 * length bs)) ∙ ap (λ (n : ℕ). 2 ^ n) (omega arith))
+
+      written : bitXor (b * 2 ^ w * 2 ^ (8 * length bs)) (number bs * 2 ^ w) ≡ (b * 2 ^ (8 * length bs) + number bs) * 2 ^ w
+      written =
+          ap (λ (x : ℕ). bitXor x (number bs * 2 ^ w)) (mul-right-comm b (2 ^ w) (2 ^ (8 * length bs)))
+          ∙ sym (xor-mul (b * 2 ^ (8 * length bs)) (number bs) w)
+          ∙ ap (λ (x : ℕ). x * 2 ^ w) (xor-shifted b (8 * length bs) (number bs) (number-lt bs (h .1)))
+
+      joined : bitXor (bitXor (r * 2 ^ 8) (b * 2 ^ w) * 2 ^ (8 * length bs)) (number bs * 2 ^ w)
+          ≡ bitXor (r * 2 ^ (8 * suc (length bs))) ((b * 2 ^ (8 * length bs) + number bs) * 2 ^ w)
+      joined =
+          ap (λ (x : ℕ). bitXor x (number bs * 2 ^ w)) (xor-mul (r * 2 ^ 8) (b * 2 ^ w) (8 * length bs))
+          ∙ xor-assoc (r * 2 ^ 8 * 2 ^ (8 * length bs)) (b * 2 ^ w * 2 ^ (8 * length bs)) (number bs * 2 ^ w)
+          ∙ ap₂ bitXor up written
+
+  remainder-of : {a r : ℕ} → Same g a r → r < 2 ^ w → Remainder w g a r
+  remainder-of {a} {r} s h =
+      record {
+        quotient = s .quotient;
+        exact = sym (xor-zero-r a) ∙ ap (bitXor a) (sym (xor-self r)) ∙ sym (xor-assoc a r r) ∙ ap (λ (n : ℕ). bitXor n r) (s .exact);
+        below = h;
+      }
 
   pub word-remainder : (bs : List ℕ) → Bytes bs → Remainder w g (number bs * 2 ^ w) (word w g bs)
   word-remainder bs h =
-      let e : value 0 bs ≡ number bs = value-is bs 0 ∙ ap (λ (x : ℕ). x + number bs) (zero-mul (2 ^ (8 * length bs))) ∙ zero-add (number bs) in
-      let s : Same g (value 0 bs * 2 ^ w) (word w g bs) =
-      run-same bs 0 0 (pow-pos w) h (same-eq g (sym (zero-mul (2 ^ w))) refl (same-refl g 0)) in
-      record {
-        quotient = s .quotient;
-        exact =
-            ap (λ (n : ℕ). n * 2 ^ w) (sym e) ∙ sym (xor-zero-r (value 0 bs * 2 ^ w)) ∙ ap (bitXor (value 0 bs * 2 ^ w)) (sym (xor-self (word w g bs)))
-            ∙ sym (xor-assoc (value 0 bs * 2 ^ w) (word w g bs) (word w g bs)) ∙ ap (λ (n : ℕ). bitXor n (word w g bs)) (s .exact);
-        below = run-lt w g good bs 0 (pow-pos w) h;
-      }
+      let e : bitXor (0 * 2 ^ (8 * length bs)) (number bs * 2 ^ w) ≡ number bs * 2 ^ w =
+      ap (λ (x : ℕ). bitXor x (number bs * 2 ^ w)) (zero-mul (2 ^ (8 * length bs))) in
+      remainder-of (same-eq g e refl (run-same bs 0 (pow-pos w) h)) (run-lt w g good bs 0 (pow-pos w) h)
 
 -- A quotient by its coefficients, lowest first: so a multiple of g can be taken apart from its lowest term on.
 
@@ -232,3 +237,7 @@ remainder-unique w g good {a} {r} {s} p q =
     ∙ sum-small w g (good .degree) (coefficients (p .quotient ++ q .quotient))
     (subst (λ (n : ℕ). n < 2 ^ w) (sym multiple) (xor-lt w r s (p .below) (q .below))) in
     sym (xor-zero-r r) ∙ ap (bitXor r) (sym none) ∙ xor-twice r s
+
+-- two numbers below 2 ^ w that leave the remainder of one are one
+pub same-unique : (w g : ℕ) → Generator w g → {a r s : ℕ} → Same g a r → Same g a s → r < 2 ^ w → s < 2 ^ w → r ≡ s
+same-unique w g good p q hr hs = remainder-unique w g good (remainder-of w g good p hr) (remainder-of w g good q hs)

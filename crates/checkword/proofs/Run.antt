@@ -6,7 +6,7 @@ use mathlib.Core.List.{List, [], _∷_, _++_}
 use Prim.Native.Nat.{ℕ, zero, suc, _+_, _-_, _*_, _/_, _%_, _^_, _≤_, _<_, min}
 use native.Mathlib.Nat.{zero-mul, mul-assoc, eq-of-mul-eq-mul-right, mod-lt, mod-one, mod-eq-of-lt, zero-lt-suc}
 use native.Mathlib.Omega.{arith}
-use lib.Pow.{pow-pos, pow-add, shl-lt, mod-pow-add}
+use lib.Pow.{pow-pos, pow-add, shl-lt, shl-shr, mod-pow-add}
 use lib.ListN.{length, take, drop, length-take, length-drop, take-append-drop}
 use lib.Seq.{drop-drop}
 use lib.Bits.{bitXor, xor-lt, xor-zero-r, xor-shifted}
@@ -21,9 +21,11 @@ pub run-append : (w g r : ℕ) (a b : List ℕ) → run w g r (a ++ b) ≡ run w
 run-append w g r [] b = refl
 run-append w g r (x ∷ xs) b = run-append w g (feed w g r x) xs b
 
--- a second run that goes on from the register of the first ends with the word of the two, one after the other
-pub two-runs : (w g : ℕ) (a b : List ℕ) {x y : ℕ} → x ≡ run w g 0 a → y ≡ run w g x b → y ≡ word w g (a ++ b)
-two-runs w g a b e f = f ∙ ap (λ (r : ℕ). run w g r b) e ∙ sym (run-append w g 0 a b)
+-- a second run that goes on from the register of the first, both with the register s bits up, ends with the word of the two, one after the other
+pub two-runs : (w g s : ℕ) (a b : List ℕ) {x y : ℕ} → x ≡ run w g 0 a * 2 ^ s → y ≡ run w g (x / 2 ^ s) b * 2 ^ s → y / 2 ^ s ≡ word w g (a ++ b)
+two-runs w g s a b {x} {y} e f =
+    ap (λ (n : ℕ). n / 2 ^ s) f ∙ shl-shr (run w g (x / 2 ^ s) b) s
+    ∙ ap (λ (r : ℕ). run w g r b) (ap (λ (n : ℕ). n / 2 ^ s) e ∙ shl-shr (run w g 0 a) s) ∙ sym (run-append w g 0 a b)
 
 module _ (w g : ℕ) (good : Generator w g) where
   -- the n lowest bits of b, one after the other, are one number below the top of the register that is shifted through

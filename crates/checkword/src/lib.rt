@@ -1,52 +1,106 @@
 // The check word of SUBSET-057, section 10: over two runs of bytes one after the other, at the widths of SL 4 and SL 2. Nothing is joined or copied.
+//
+// The register stands at the top of 64 bits, so that both widths go on in one way, up to eight bytes at a time: the top of the register, as long as the bytes, with
+// the bytes added to it is one number, and what its digits leave is added to the rest of the register, moved up.
 ghost use mathlib.Core.Path.{_≡_};
 ghost use mathlib.Core.List.{_++_};
-ghost use Prim.Native.Nat.{_^_, _<_};
-ghost use Rattle.checkword.specs.Polynomial.{Generator};
+ghost use Prim.Native.Nat.{_+_, _*_, _/_, _%_, _^_, _≤_, _<_};
+ghost use lib.ListN.{length, take, drop};
+ghost use Rattle.checkword.specs.Bytes.{number};
 ghost use Rattle.checkword.specs.Generators.{generator48, generator32};
-ghost use Rattle.checkword.specs.Word.{shift, feed, run, word};
+ghost use Rattle.checkword.specs.Word.{run, word};
 
-// CRC_SL4 and CRC_SL2, each whole, with its highest term (10.1.3.2, 10.1.2.1; as bytes in 10.2).
-const CRC_SL4: u64 = 0x1_D28D_B3FA_4AAD;
-
-const CRC_SL2: u64 = 0x1_4A50_3DF1;
-
-// One shift: when a one falls out, exclusive-or the generator.
-fn shifted(width: u32, generator: u64, register: u64) -> u64
-    requires { ⌜ (width < 63) × (register < 2 ^ width) ⌝ }
-    ensures { λ r. ⌜ r ≡ shift width generator register ⌝ }
+fn wide(byte: u8) -> u64
+    ensures { λ r. ⌜ (r ≡ byte) × (r < 256) ⌝ }
 {
-    let double = register * 2;
-    if double >> width == 0 {
-        return double;
-    }
-    double ^ generator
+    byte as u64
 }
 
-// A byte goes in: it is put into the top of the register, and its eight bits fall out, highest first.
-fn fed(width: u32, generator: u64, register: u64, byte: u8) -> u64
-    requires { ⌜ (width < 63) × (register < 2 ^ width) × Generator width generator ⌝ }
-    ensures { λ r. ⌜ r ≡ feed width generator register byte ⌝ }
+// The two, four or eight bytes from `i` on as one number, highest byte first.
+fn two(bytes: &[u8], i: usize) -> u64
+    requires { ⌜ i + 2 ≤ length (now bytes) ⌝ }
+    ensures { λ r. ⌜ r ≡ number (take 2 (drop i (now (bytes .entry)))) ⌝ }
 {
-    let mut x = register ^ ((byte as u64) << (width - 8));
-    let mut n: u32 = 0;
-    while n < 8 {
-        x = shifted(width, generator, x);
-        n += 1;
+    wide(bytes[i]) * 0x100 + wide(bytes[i + 1])
+}
+
+fn four(bytes: &[u8], i: usize) -> u64
+    requires { ⌜ i + 4 ≤ length (now bytes) ⌝ }
+    ensures { λ r. ⌜ (r ≡ number (take 4 (drop i (now (bytes .entry))))) × (r < 2 ^ 32) ⌝ }
+{
+    wide(bytes[i]) * 0x100_0000
+        + wide(bytes[i + 1]) * 0x1_0000
+        + wide(bytes[i + 2]) * 0x100
+        + wide(bytes[i + 3])
+}
+
+fn eight(bytes: &[u8], i: usize) -> u64
+    requires { ⌜ i + 8 ≤ length (now bytes) ⌝ }
+    ensures { λ r. ⌜ r ≡ number (take 8 (drop i (now (bytes .entry)))) ⌝ }
+{
+    four(bytes, i) * 0x1_0000_0000 + four(bytes, i + 4)
+}
+
+// The register after a run of bytes.
+fn run_on48(register: u64, bytes: &[u8]) -> u64
+    requires { ⌜ register % 2 ^ 16 ≡ 0 ⌝ }
+    ensures { λ r. ⌜ r ≡ run 48 generator48 (register / 2 ^ 16) (now (bytes .entry)) * 2 ^ 16 ⌝ }
+{
+    let mut x = register;
+    let mut i = 0;
+    while i < bytes.len() {
+        let rest = bytes.len() - i;
+        let mut v: u64 = 0;
+        if 8 <= rest {
+            v = x ^ eight(bytes, i);
+            x = 0;
+            i += 8;
+        } else if 4 <= rest {
+            v = (x >> 32) ^ four(bytes, i);
+            x <<= 32;
+            i += 4;
+        } else if 2 <= rest {
+            v = (x >> 48) ^ two(bytes, i);
+            x <<= 16;
+            i += 2;
+        } else {
+            v = (x >> 56) ^ wide(bytes[i]);
+            x <<= 8;
+            i = bytes.len();
+        }
+        x = rows48::high(x, v >> 30) ^ rows48::low(v % 0x4000_0000);
     }
     x
 }
 
 // The register after a run of bytes.
-fn run_on(width: u32, generator: u64, register: u64, bytes: &[u8]) -> u64
-    requires { ⌜ (width < 63) × (register < 2 ^ width) × Generator width generator ⌝ }
-    ensures { λ r. ⌜ (r ≡ run width generator register (now (bytes .entry))) × (r < 2 ^ width) ⌝ }
+fn run_on32(register: u64, bytes: &[u8]) -> u64
+    requires { ⌜ register % 2 ^ 32 ≡ 0 ⌝ }
+    ensures { λ r. ⌜ r ≡ run 32 generator32 (register / 2 ^ 32) (now (bytes .entry)) * 2 ^ 32 ⌝ }
 {
     let mut x = register;
     let mut i = 0;
     while i < bytes.len() {
-        x = fed(width, generator, x, bytes[i]);
-        i += 1;
+        let rest = bytes.len() - i;
+        let mut v: u64 = 0;
+        if 8 <= rest {
+            v = x ^ eight(bytes, i);
+            x = 0;
+            i += 8;
+        } else if 4 <= rest {
+            v = (x >> 32) ^ four(bytes, i);
+            x <<= 32; // nothing of the register is left, at SL 2
+            i += 4;
+        } else if 2 <= rest {
+            v = (x >> 48) ^ two(bytes, i);
+            x <<= 16;
+            i += 2;
+        } else {
+            v = (x >> 56) ^ wide(bytes[i]);
+            x <<= 8;
+            i = bytes.len();
+        }
+        x = rows32::high(x, v >> 30) ^ rows32::low(v % 0x4000_0000);
     }
     x
 }
@@ -55,12 +109,12 @@ fn run_on(width: u32, generator: u64, register: u64, bytes: &[u8]) -> u64
 pub fn word48(first: &[u8], second: &[u8]) -> u64
     ensures { λ r. ⌜ r ≡ word 48 generator48 (now (first .entry) ++ now (second .entry)) ⌝ }
 {
-    run_on(48, CRC_SL4, run_on(48, CRC_SL4, 0, first), second)
+    run_on48(run_on48(0, first), second) >> 16
 }
 
 // The check word at SL 2 of `first` and then `second`.
 pub fn word32(first: &[u8], second: &[u8]) -> u32
     ensures { λ r. ⌜ r ≡ word 32 generator32 (now (first .entry) ++ now (second .entry)) ⌝ }
 {
-    run_on(32, CRC_SL2, run_on(32, CRC_SL2, 0, first), second) as u32
+    (run_on32(run_on32(0, first), second) >> 32) as u32
 }

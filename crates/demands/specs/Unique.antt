@@ -7,6 +7,10 @@ use mathlib.Core.Path.{_≡_}
 use mathlib.Core.Bool.{Bool}
 use mathlib.Core.List.{List, _++_}
 use Prim.Native.Nat.{ℕ}
+use lib.Bits.{bitXor}
+use Rattle.digits.specs.Digits.{picked}
+use Rattle.rows48.specs.Rows as rows48
+use Rattle.rows32.specs.Rows as rows32
 use Rattle.checkword.specs.Generators.{generator48, generator32}
 use Rattle.checkword.specs.Word.{word}
 use Rattle.telegram.specs.Commands.{kindOfCommand}
@@ -72,6 +76,17 @@ Unique₂ {A} {B} P = (r s : A) (a b : B) → P r a → P s b → (r ≡ s) × (
 -- The same of a result, a table and a buffer that were lent.
 abbrev pub Unique₃ : {A B C : Type 0} → (A → B → C → Type 0) → Type 0
 Unique₃ {A} {B} {C} P = (r s : A) (t u : B) (a b : C) → P r t a → P s u b → (r ≡ s) × ((t ≡ u) × (a ≡ b))
+
+-- The public functions of `rows48` and `rows32`, which only `checkword` calls.
+pub record Rows48 : Type 0 where
+  -- src/lib.rt: what the low and the high digits of a number leave
+  pub low : (v : ℕ) → Unique (λ (r : ℕ). r ≡ picked rows48.low 5 v)
+  pub high : (y v : ℕ) → Unique (λ (r : ℕ). r ≡ bitXor y (picked rows48.high 6 v))
+
+pub record Rows32 : Type 0 where
+  -- src/lib.rt: the same at the other width
+  pub low : (v : ℕ) → Unique (λ (r : ℕ). r ≡ picked rows32.low 5 v)
+  pub high : (y v : ℕ) → Unique (λ (r : ℕ). r ≡ bitXor y (picked rows32.high 6 v))
 
 -- The public functions of `checkword`.
 pub record Checkword : Type 0 where
@@ -319,6 +334,8 @@ pub record Clock : Type 0 where
 
 -- Every public function of the library.
 pub record Uniqueness : Type 0 where
+  pub rows48 : Rows48
+  pub rows32 : Rows32
   pub checkword : Checkword
   pub telegram : Telegram
   pub link : Link
