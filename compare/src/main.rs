@@ -91,6 +91,7 @@ fn all_comparisons(tally: &mut Tally) {
     vectors(tally);
     words::wrong_words_are_seen(tally);
     words::single_bytes(tally);
+    words::by_bytes(tally);
     words::random_strings(tally);
     words::law(tally);
     words::burst(tally);

@@ -55,6 +55,31 @@ pub fn word(generator: Generator, message: &[u8]) -> u64 {
     remainder
 }
 
+/// The same word byte by byte, where there are too many strings to go bit by bit. `word` is the definition: the table is made by it, and `words.rs`
+/// holds to it what comes of the table.
+pub struct ByBytes {
+    generator: Generator,
+    words: [u64; 256],
+}
+
+impl ByBytes {
+    pub fn new(generator: Generator) -> ByBytes {
+        let mut words = [0; 256];
+        words.iter_mut().zip(0..).for_each(|(of_byte, byte)| *of_byte = word(generator, &[byte]));
+        ByBytes { generator, words }
+    }
+
+    /// With a byte more, the highest byte of the word so far and the new byte leave together what the table has; the word's other bytes move one place
+    /// higher.
+    pub fn word(&self, message: &[u8]) -> u64 {
+        let above = self.generator.width - 8;
+        message.iter().fold(0, |word, byte| {
+            let (highest, others) = (word >> above, word & ((1 << above) - 1));
+            others << 8 ^ self.words[usize::from(highest as u8 ^ byte)]
+        })
+    }
+}
+
 /// The word's bytes, highest first, as they stand in a telegram.
 pub fn word_bytes(generator: Generator, message: &[u8]) -> Vec<u8> {
     word(generator, message).to_be_bytes()[8 - generator.bytes()..].to_vec()

@@ -5,10 +5,18 @@ use crate::library;
 use crate::random::Random;
 use crate::tally::Tally;
 use crate::vectors::{vectors as published, Vector};
-use crate::word::{word, word_bytes, Generator, SL2, SL4};
+use crate::word::{word, word_bytes, ByBytes, Generator, SL2, SL4};
+use std::thread;
 
 const SEED: u64 = 0x5355_4253_4554_3537;
 const LEVELS: [Generator; 2] = [SL4, SL2];
+
+/// The random strings: a thread for each seed, so many strings of each, up to so many bytes. On the first ones of each seed the second program's word by
+/// bytes is held to its word bit by bit.
+const STRING_SEEDS: [u64; 2] = [SEED, SEED + 4];
+const STRINGS_OF_A_SEED: usize = 500_000;
+const LONGEST_STRING: usize = 4096;
+const BIT_BY_BIT_OF_A_SEED: usize = 10_000;
 
 /// The library's word at a level over two runs.
 fn library_word(generator: Generator, first: &[u8], second: &[u8]) -> u64 {
@@ -94,40 +102,81 @@ pub fn wrong_words_are_seen(tally: &mut Tally) {
     tally.told("wrong words: each is seen by a vector");
 }
 
-/// Every byte value at every place of every length up to 16, the other bytes 0; and the empty string, which gives 0.
+/// Every byte value at every place of every length up to 64, the other bytes 0, in one run and cut in the middle; and the empty string, which gives 0.
 pub fn single_bytes(tally: &mut Tally) {
     for generator in LEVELS {
         tally.hold(library_word(generator, &[], &[]) == 0, || "the word of nothing".to_string());
-        for length in 1..=16 {
+        for length in 1..=64 {
             for place in 0..length {
                 for value in 0..=255 {
                     let mut message = vec![0u8; length];
                     message[place] = value;
-                    tally.hold(library_cut(generator, &message, length / 2) == word(generator, &message), || {
-                        format!("{} bits: {}", generator.width, hex(&message))
-                    });
+                    let second = word(generator, &message);
+                    for cut in [0, length / 2] {
+                        tally.hold(library_cut(generator, &message, cut) == second, || {
+                            format!("{} bits, cut at {cut}: {}", generator.width, hex(&message))
+                        });
+                    }
                 }
             }
         }
     }
-    tally.told("single bytes: every value at every place of every length up to 16, both widths");
+    tally.told("single bytes: every value at every place of every length up to 64, in one run and cut in the middle, both widths");
 }
 
-pub fn random_strings(tally: &mut Tally) {
-    let mut random = Random(SEED);
-    for _ in 0..100_000 {
-        let length = random.upto(252);
+/// The second program's word by bytes is its word bit by bit: of each byte, and of each published vector, at both widths. Some of the random strings hold
+/// it too.
+pub fn by_bytes(tally: &mut Tally) {
+    for generator in LEVELS {
+        let by_bytes = ByBytes::new(generator);
+        let mut hold = |message: &[u8]| {
+            tally.hold(by_bytes.word(message) == word(generator, message), || {
+                format!("{} bits, by bytes: {}", generator.width, hex(message))
+            })
+        };
+        (0..=255).for_each(|byte| hold(&[byte]));
+        published().iter().for_each(|v| hold(&[v.implicit, v.telegram].concat()));
+    }
+    tally.told("second program by bytes: its word bit by bit, of every byte and every published vector, both widths");
+}
+
+/// The random strings of a seed.
+fn strings_of(seed: u64) -> Tally {
+    let mut tally = Tally::default();
+    let mut random = Random(seed);
+    let levels = LEVELS.map(|generator| (generator, ByBytes::new(generator)));
+    for n in 0..STRINGS_OF_A_SEED {
+        let length = random.upto(LONGEST_STRING);
         let message = random.bytes(length);
         let cut = random.upto(length);
         tally.drawn(1);
-        for generator in LEVELS {
-            tally.hold(library_cut(generator, &message, cut) == word(generator, &message), || {
+        for (generator, by_bytes) in &levels {
+            let second = by_bytes.word(&message);
+            tally.hold(library_cut(*generator, &message, cut) == second, || {
                 format!("{} bits, cut at {cut}: {}", generator.width, hex(&message))
             });
+            if n < BIT_BY_BIT_OF_A_SEED {
+                tally.hold(second == word(*generator, &message), || {
+                    format!("{} bits, by bytes: {}", generator.width, hex(&message))
+                });
+            }
         }
     }
+    tally
+}
+
+pub fn random_strings(tally: &mut Tally) {
+    thread::scope(|scope| {
+        let threads = STRING_SEEDS.map(|seed| scope.spawn(move || strings_of(seed)));
+        threads
+            .into_iter()
+            .for_each(|thread| tally.add(thread.join().expect("a thread that comes to its end")));
+    });
+    let ([first, second], seeds) = (STRING_SEEDS, STRING_SEEDS.len());
     tally.told(&format!(
-        "random strings: 100000 of 0 to 252 bytes, cut at random into two runs, both widths (seed {SEED:#x})"
+        "random strings: {} of 0 to {LONGEST_STRING} bytes, cut at random into two runs, both widths, {} bit by bit too (seeds {first:#x}, {second:#x})",
+        seeds * STRINGS_OF_A_SEED,
+        seeds * BIT_BY_BIT_OF_A_SEED
     ));
 }
 
