@@ -10,25 +10,8 @@ use crate::{damage_limits, damage_longer, wrong_checks};
 use std::sync::atomic::{AtomicUsize, Ordering};
 use std::thread;
 
-/// How much is run.
-pub struct Amount {
-    /// Whether pairs of bits are damaged at every length of a kind, or at a few.
-    every_length: bool,
-    /// Random bursts in each telegram.
-    bursts: usize,
-}
-
-/// What is run among all comparisons.
-pub const SOME: Amount = Amount {
-    every_length: false,
-    bursts: 2_000,
-};
-
-/// What is run alone, as it takes minutes.
-pub const ALL: Amount = Amount {
-    every_length: true,
-    bursts: 100_000,
-};
+/// Random bursts in each telegram.
+const BURSTS: usize = 100_000;
 
 /// How many telegrams are damaged at a time.
 const THREADS: usize = 2;
@@ -91,12 +74,12 @@ fn pairs_of_bits(shape: &Shape, counts: &mut Counts) {
     });
 }
 
-/// So many random bursts in a telegram.
-fn bursts(shape: &Shape, times: usize, counts: &mut Counts) {
+/// Random bursts in a telegram.
+fn bursts(shape: &Shape, counts: &mut Counts) {
     let mut random = shape.random();
     let mut good = shape.drawn(&mut random);
-    counts.tally.drawn(times);
-    damage::bursts(shape.level, &mut good.telegram, times, &mut random, |place, damaged| {
+    counts.tally.drawn(BURSTS);
+    damage::bursts(shape.level, &mut good.telegram, BURSTS, &mut random, |place, damaged| {
         counts.places[place as usize] += 1;
         let answer = library::check(&good.end, good.expected, damaged);
         counts.tally.hold(answer == FAILED, || {
@@ -111,24 +94,20 @@ fn compare_single_bits(tally: &mut Tally) {
     tally.told("damage, single bits: every one but the command's, in each kind at each length, by both programs, all fail");
 }
 
-/// Pairs of bits, in telegrams of every length of each kind or of some.
-fn compare_pairs_of_bits(every_length: bool, tally: &mut Tally) {
-    let chosen: Vec<Shape> = shapes().into_iter().filter(|shape| every_length || shape.is_spread()).collect();
-    tally.add(each(&chosen, pairs_of_bits).tally);
-    let lengths = if every_length { "each length" } else { "up to five lengths" };
-    tally.told(&format!(
-        "damage, pairs of bits: every one within 6 neighbouring bytes (SL 4) or 4 (SL 2), in each kind at {lengths}, all fail"
-    ));
+/// Pairs of bits, in telegrams of all shapes.
+fn compare_pairs_of_bits(tally: &mut Tally) {
+    tally.add(each(&shapes(), pairs_of_bits).tally);
+    tally.told("damage, pairs of bits: every one within 6 neighbouring bytes (SL 4) or 4 (SL 2), in each kind at each length, all fail");
 }
 
 /// Random bursts, in telegrams of all shapes. Each of the three places has a fifth of them at least.
-fn compare_bursts(times: usize, tally: &mut Tally) {
+fn compare_bursts(tally: &mut Tally) {
     const PLACES: [(Place, &str); 3] = [
         (Place::BeforeWord, "before the check word"),
         (Place::InWord, "in the check word"),
         (Place::AcrossItsStart, "across the start of the check word"),
     ];
-    let Counts { tally: counted, places } = each(&shapes(), |shape, counts| bursts(shape, times, counts));
+    let Counts { tally: counted, places } = each(&shapes(), bursts);
     tally.add(counted);
     for (place, what) in PLACES {
         tally.hold(places[place as usize] >= places.iter().sum::<usize>() / 5, || {
@@ -136,7 +115,7 @@ fn compare_bursts(times: usize, tally: &mut Tally) {
         });
     }
     tally.told(&format!(
-        "damage, bursts: {times} random ones within 6 or 4 neighbouring bytes in each kind at each length, all fail (seed {SEED:#x}); of these"
+        "damage, bursts: {BURSTS} random ones within 6 or 4 neighbouring bytes in each kind at each length, all fail (seed {SEED:#x}); of these"
     ));
     PLACES
         .iter()
@@ -144,11 +123,11 @@ fn compare_bursts(times: usize, tally: &mut Tally) {
 }
 
 /// Wrong checks that damage shows, damage that is promised to be found, and damage that is not.
-pub fn compare(amount: &Amount, tally: &mut Tally) {
+pub fn compare(tally: &mut Tally) {
     wrong_checks::are_seen(tally);
     compare_single_bits(tally);
-    compare_pairs_of_bits(amount.every_length, tally);
-    compare_bursts(amount.bursts, tally);
+    compare_pairs_of_bits(tally);
+    compare_bursts(tally);
     damage_longer::compare(tally);
     damage_limits::compare(tally);
 }

@@ -44,12 +44,6 @@ impl Shape {
         Random(SEED + ((self.level as u64) << 12 | (self.kind as u64) << 8 | self.length as u64))
     }
 
-    /// Whether the length is the shortest or the longest of its kind, or a quarter, a half or three quarters of the way between.
-    pub fn is_spread(&self) -> bool {
-        let (least, most) = self.kind.lengths(self.level).into_inner();
-        (0..=4).any(|quarter| self.length == least + (most - least) * quarter / 4)
-    }
-
     /// A telegram of this shape with random contents, as the partner of a random sender checks it. A request or confirm passes whatever number is expected.
     pub fn drawn(&self, random: &mut Random) -> Good {
         let draft = self.draft(random);

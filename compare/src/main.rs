@@ -100,7 +100,7 @@ fn all_comparisons(tally: &mut Tally) {
     telegrams::wrong_programs_are_seen(tally);
     telegrams::systematic(tally);
     telegrams::random(tally);
-    damage_runs::compare(&damage_runs::SOME, tally);
+    damage_runs::compare(tally);
     links::compare_all(tally);
     nodes::compare_all(tally);
     clocks::compare_all(tally);
@@ -111,7 +111,7 @@ fn main() -> ExitCode {
     match std::env::args().nth(1).as_deref() {
         None => all_comparisons(&mut tally),
         Some("vectors") => vectors(&mut tally),
-        Some("damage") => damage_runs::compare(&damage_runs::ALL, &mut tally),
+        Some("damage") => damage_runs::compare(&mut tally),
         Some(other) => {
             eprintln!("compare: unknown word '{other}'; there are 'vectors' and 'damage', or nothing for all comparisons");
             return ExitCode::from(2);

@@ -5,7 +5,7 @@ use mathlib.Core.Path.{_≡_, refl, sym, ap, ap₂, _∙_, subst}
 use mathlib.Core.Bool.{Bool, true, false}
 use mathlib.Core.List.{List, [], _∷_, _++_, map}
 use Prim.Native.Nat.{ℕ, zero, suc, _+_, _-_, _*_, _/_, _^_, _<_}
-use native.Mathlib.Nat.{zero-mul, zero-add, mul-one, mul-assoc, mul-right-comm, add-mul, add-assoc, pow-suc, sub-add-cancel, div-lt-iff-lt-mul, div-eq-of-lt}
+use native.Mathlib.Nat.{zero-mul, mul-one, mul-assoc, mul-right-comm, pow-suc, sub-add-cancel, div-lt-iff-lt-mul, div-eq-of-lt}
 use native.Mathlib.Omega.{arith}
 use lib.Pow.{pow-pos, pow-add}
 use lib.ListN.{length}

@@ -1,7 +1,7 @@
 -- The rows hold what their rule says, at every place: antt computes the rule there and compares. So what digits pick from the rows is what they leave in the
 -- register, and that leaves the remainder of the number that the digits write.
 -- Assumes nothing.
-use mathlib.Core.Path.{_≡_, refl, sym, ap, ap₂, _∙_, subst}
+use mathlib.Core.Path.{_≡_, refl, sym, ap, ap₂, _∙_}
 use mathlib.Core.List.{List, [], _∷_, _++_}
 use Prim.Native.Nat.{ℕ, zero, suc, _+_, _*_, _/_, _%_, _^_, _≤_, _<_}
 use native.Mathlib.Nat.{mul-div-cancel, add-zero, zero-add, add-suc, suc-add, zero-mul, mul-assoc, mod-lt, mod-one, zero-lt-suc, le-of-suc-le-suc, not-suc-le-zero, lt-of-lt-of-le}

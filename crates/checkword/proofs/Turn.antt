@@ -30,9 +30,6 @@ module _ (w g : ℕ) (good : Generator w g) where
       (leaves-lt w g good w 5 (v % 2 ^ 30)))
       (run-lt w g good bs r hr h)
     where
-      m : ℕ
-      m = 8 * length bs
-
       -- the register moved up by the bytes: its top goes out, and the rest stays
       up : ℕ
       up = r * 2 ^ (8 * length bs)
