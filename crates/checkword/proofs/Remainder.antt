@@ -238,6 +238,6 @@ remainder-unique w g good {a} {r} {s} p q =
     (subst (λ (n : ℕ). n < 2 ^ w) (sym multiple) (xor-lt w r s (p .below) (q .below))) in
     sym (xor-zero-r r) ∙ ap (bitXor r) (sym none) ∙ xor-twice r s
 
--- two numbers below 2 ^ w that leave the remainder of one are one
+-- two numbers below 2 ^ w that leave the remainder of one number are equal
 pub same-unique : (w g : ℕ) → Generator w g → {a r s : ℕ} → Same g a r → Same g a s → r < 2 ^ w → s < 2 ^ w → r ≡ s
 same-unique w g good p q hr hs = remainder-unique w g good (remainder-of w g good p hr) (remainder-of w g good q hs)

@@ -1,5 +1,5 @@
 -- A turn of the run: the top of the register, as long as the bytes that come in, with the bytes added to it is one number; what its digits leave, added to the
--- rest of the register moved up, is the register after the bytes. Both leave the remainder of one number and are below 2 ^ w, so they are one.
+-- rest of the register moved up, is the register after the bytes. Both leave the remainder of one number and are below 2 ^ w, so they are equal.
 -- Assumes nothing.
 use mathlib.Core.Path.{_≡_, refl, sym, ap, ap₂, _∙_, subst}
 use mathlib.Core.List.{List}

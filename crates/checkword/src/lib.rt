@@ -1,7 +1,7 @@
 // The check word of SUBSET-057, section 10: over two runs of bytes one after the other, at the widths of SL 4 and SL 2. Nothing is joined or copied.
 //
-// The register stands at the top of 64 bits, so that both widths go on in one way, up to eight bytes at a time: the top of the register, as long as the bytes, with
-// the bytes added to it is one number, and what its digits leave is added to the rest of the register, moved up.
+// The register stands at the top of 64 bits, so that both widths go on in one way, up to eight bytes at a time. In each turn as many bits as come in are taken from the
+// top of the register and added to the bytes; what the digits of that number leave is added to the rest of the register, which moves up.
 ghost use mathlib.Core.Path.{_≡_};
 ghost use mathlib.Core.List.{_++_};
 ghost use Prim.Native.Nat.{_+_, _*_, _/_, _%_, _^_, _≤_, _<_};
@@ -10,6 +10,7 @@ ghost use Rattle.checkword.specs.Bytes.{number};
 ghost use Rattle.checkword.specs.Generators.{generator48, generator32};
 ghost use Rattle.checkword.specs.Word.{run, word};
 
+// A byte as a number of 64 bits.
 fn wide(byte: u8) -> u64
     ensures { λ r. ⌜ (r ≡ byte) × (r < 256) ⌝ }
 {
@@ -41,7 +42,7 @@ fn eight(bytes: &[u8], i: usize) -> u64
     four(bytes, i) * 0x1_0000_0000 + four(bytes, i + 4)
 }
 
-// The register after a run of bytes.
+// The register after a run of bytes, at SL 4, where its 48 bits stand above 16 zeros.
 fn run_on48(register: u64, bytes: &[u8]) -> u64
     requires { ⌜ register % 2 ^ 16 ≡ 0 ⌝ }
     ensures { λ r. ⌜ r ≡ run 48 generator48 (register / 2 ^ 16) (now (bytes .entry)) * 2 ^ 16 ⌝ }
@@ -57,7 +58,7 @@ fn run_on48(register: u64, bytes: &[u8]) -> u64
             i += 8;
         } else if 4 <= rest {
             v = (x >> 32) ^ four(bytes, i);
-            x <<= 32;
+            x <<= 32; // 16 bits of the register are left, at SL 4
             i += 4;
         } else if 2 <= rest {
             v = (x >> 48) ^ two(bytes, i);
@@ -73,7 +74,7 @@ fn run_on48(register: u64, bytes: &[u8]) -> u64
     x
 }
 
-// The register after a run of bytes.
+// The same at SL 2, where its 32 bits stand above 32 zeros.
 fn run_on32(register: u64, bytes: &[u8]) -> u64
     requires { ⌜ register % 2 ^ 32 ≡ 0 ⌝ }
     ensures { λ r. ⌜ r ≡ run 32 generator32 (register / 2 ^ 32) (now (bytes .entry)) * 2 ^ 32 ⌝ }
@@ -89,7 +90,7 @@ fn run_on32(register: u64, bytes: &[u8]) -> u64
             i += 8;
         } else if 4 <= rest {
             v = (x >> 32) ^ four(bytes, i);
-            x <<= 32; // nothing of the register is left, at SL 2
+            x <<= 32;
             i += 4;
         } else if 2 <= rest {
             v = (x >> 48) ^ two(bytes, i);

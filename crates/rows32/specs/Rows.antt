@@ -1,5 +1,5 @@
 -- The rows of the check word at SL 2, of 64 numbers each: place d of row p is what the digit d of six bits, with p digits behind it, leaves in the register
--- of 32 bits, which stands at the top of 64. Nobody has to believe it: it is `low32` and `high32` of checkword/proofs/Rows.
+-- of 32 bits, which stands at the top of 64. This need not be believed: `low32` and `high32` in checkword/proofs/Rows.antt prove it.
 -- Assumes nothing.
 use mathlib.Core.List.{List, [], _∷_}
 use Prim.Native.Nat.{ℕ}
