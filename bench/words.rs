@@ -102,37 +102,34 @@ const fn behind_zeros(register: u64, bits: u32, width: u32, generator: u64) -> u
 }
 
 /// Table 0 has what each byte leaves in the register; each further table has it with a byte more behind it.
-static TABLES_48: [[u64; 256]; 8] = {
+const fn tables(width: u32, generator: u64) -> [[u64; 256]; 8] {
     let mut tables = [[0; 256]; 8];
     let mut byte = 0;
     while byte < 256 {
-        let mut left = behind_zeros(byte as u64, 48, 48, GENERATOR_48);
+        let mut left = behind_zeros(byte as u64, width, width, generator);
         let mut table = 0;
         while table < 8 {
             tables[table][byte] = left;
-            left = behind_zeros(left, 8, 48, GENERATOR_48);
+            left = behind_zeros(left, 8, width, generator);
             table += 1;
         }
         byte += 1;
     }
     tables
-};
+}
 
-/// The same of 32 bits.
+static TABLES_48: [[u64; 256]; 8] = tables(48, GENERATOR_48);
+
+/// In half the room.
 static TABLES_32: [[u32; 256]; 8] = {
-    let mut tables = [[0; 256]; 8];
-    let mut byte = 0;
-    while byte < 256 {
-        let mut left = behind_zeros(byte as u64, 32, 32, GENERATOR_32);
-        let mut table = 0;
-        while table < 8 {
-            tables[table][byte] = left as u32;
-            left = behind_zeros(left, 8, 32, GENERATOR_32);
-            table += 1;
-        }
-        byte += 1;
+    let wide = tables(32, GENERATOR_32);
+    let mut narrow = [[0; 256]; 8];
+    let mut entry = 0;
+    while entry < 8 * 256 {
+        narrow[entry / 256][entry % 256] = wide[entry / 256][entry % 256] as u32;
+        entry += 1;
     }
-    tables
+    narrow
 };
 
 /// Eight bytes at a time, each by the table of its place, and the bytes behind the last eight one by one.
