@@ -34,7 +34,7 @@ use Rattle.link.proofs.Record.Laws as T′
 use Rattle.node.specs.Accepted.{nowhere, recordAt}
 use Rattle.node.proofs.Rows.{R, val, vals, makes, typed, row-out}
 use Rattle.node.proofs.Calling.{lent}
-use Rattle.node.proofs.Frame.{Cell, gap, some, away, In, Within, setAt, lowers, frameOf, withAt, heldIn, local, val as val-of, sets}
+use Rattle.ground.proofs.Frame.{Cell, gap, some, away, In, Within, setAt, lowers, frameOf, withAt, heldIn, local, val as val-of, sets}
 
 -- the two as an array
 abbrev pub two : Record → Record → List Record

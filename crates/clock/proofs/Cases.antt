@@ -7,7 +7,7 @@ use Prim.Native.Nat.{ℕ, _+_, _-_, _*_, _^_, _<_, _≤_}
 use native.Mathlib.Omega.{arith}
 use lib.Dec.{eqb, leb}
 use borrow.Author.Tests.{lt-ltb, le-ltb, le-leb, lt-leb, ne-eqb, eqb-true, eqb-false}
-use Rattle.clock.specs.Choice.{pick, yes, no}
+use Rattle.ground.specs.Choice.{pick, yes, no}
 use Rattle.clock.specs.Tests.{failing, pairTests}
 use Rattle.clock.specs.Clocks.{countingPeriod}
 use Rattle.clock.specs.declared.Pair.{Pair}

@@ -10,7 +10,7 @@ use lib.Signed.{mag}
 use mir.Syntax.{w64}
 use mir.Val.{SFits}
 use borrow.Author.Tests.{lt-ltb, le-ltb, ltb-true, ltb-false}
-use Rattle.clock.specs.Choice.{pick, yes, no}
+use Rattle.ground.specs.Choice.{pick, yes, no}
 use Rattle.clock.specs.Circle.{minus, signedOf, distanceOf}
 
 pub near-is : (d a b : ℕ) (z : ℤ) → d ≡ minus a b → d < 2 ^ 31 → z ≡ pos d → z ≡ distanceOf a b

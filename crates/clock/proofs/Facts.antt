@@ -4,7 +4,7 @@
 use mathlib.Core.Path.{_≡_}
 use Prim.Native.Nat.{ℕ, _+_, _*_, _/_, _%_, _^_, _<_}
 use native.Mathlib.Omega.{arith}
-use Rattle.clock.specs.Choice.{pick}
+use Rattle.ground.specs.Choice.{pick}
 use Rattle.clock.specs.Reading.{prefixed, readBy}
 use Rattle.clock.specs.Facts.{Read-back, Facts}
 use Rattle.clock.proofs.Rounding.{equal-differences, between, floor, distance-back}

@@ -7,7 +7,7 @@ use Prim.Native.Nat.{ℕ, _+_, _≤_, _<_}
 use native.Mathlib.Omega.{arith}
 use lib.Dec.{eqb, leb, ltb}
 use borrow.Author.Tests.{lt-ltb, le-ltb, le-leb, lt-leb, ne-eqb, eqb-true, ltb-true, ltb-false}
-use Rattle.clock.specs.Choice.{pick}
+use Rattle.ground.specs.Choice.{pick}
 use Rattle.clock.specs.Circle.{laterThan, apartBy}
 use Rattle.clock.specs.Factor.{differenceOf, newestOf, meanOf}
 use Rattle.clock.specs.Tests.{isAbove, isFollowing, elapsed, failing, standingTests, laterTests, nearTests, periodTests, periodOver}

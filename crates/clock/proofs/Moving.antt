@@ -9,7 +9,7 @@ use native.Mathlib.Omega.{arith}
 use lib.Dec.{eqb, ltb}
 use lib.ListN.{length, take, length-take}
 use lib.IntN.{ℤ, pos, _+ℤ_}
-use Rattle.clock.specs.Choice.{pick}
+use Rattle.ground.specs.Choice.{pick}
 use Rattle.clock.specs.Circle.{minus, distanceOf, laterThan, apartBy}
 use Rattle.clock.specs.Factor.{fronted, differenceOf, spreadOf, floor16, around, newestOf, meanOf}
 use Rattle.clock.specs.Facts.{Every, Timed, after, onward, laterReference, Constant-added, Ranged, movedPair, movedFactor, movedLocal, movedPeriod, movedClock, movedMessage, movedStep, Wrap-unseen, movedHeard, Wrap-unseen-run, movedAsked, Wrap-unseen-asking}

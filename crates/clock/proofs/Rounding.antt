@@ -11,7 +11,7 @@ use lib.ListN.{length}
 use lib.IntN.{ℤ, pos, negsuc, subℕ, negℤ, _+ℤ_, _-ℤ_}
 use lib.Signed.{mag, _≤ℤ_}
 use borrow.Author.Tests.{ltb-true, ltb-false}
-use Rattle.clock.specs.Choice.{pick}
+use Rattle.ground.specs.Choice.{pick}
 use Rattle.clock.specs.Circle.{minus, signedOf, distanceOf}
 use Rattle.clock.specs.Factor.{differenceOf, spreadOf, floor16, around, newestOf, meanOf}
 use Rattle.clock.specs.Facts.{Every, Equal-differences, Between, Floor, Distance-back}

@@ -9,7 +9,7 @@ use native.Mathlib.Omega.{arith}
 use lib.Dec.{eqb, ltb}
 use lib.ListN.{take, getD, replicate, length-map}
 use borrow.Author.Tests.{eqb-true, eqb-false, ltb-true, ltb-false}
-use Rattle.clock.specs.Choice.{pick}
+use Rattle.ground.specs.Choice.{pick}
 use Rattle.clock.specs.Factor.{fronted, newestOf, noPair, meanOf}
 use Rattle.clock.specs.Tests.{isAbove, isFollowing, failing, standingTests}
 use Rattle.clock.specs.Clocks.{newClock, keptBy, begunAnew, forgotten, isolatedBy, countedOf, pairedBy, synchronisedAt, resynchronisedAt, inPeriod}

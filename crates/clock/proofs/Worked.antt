@@ -1,7 +1,7 @@
 -- The worked numbers come out as said: all of it computes.
 -- Assumes nothing.
 use mathlib.Core.Path.{refl}
-use Rattle.clock.specs.Choice.{pick}
+use Rattle.ground.specs.Choice.{pick}
 use Rattle.clock.specs.Circle.{minus, signedOf, distanceOf, laterThan, apartBy}
 use Rattle.clock.specs.Factor.{fronted, differenceOf, spreadOf, floor16, around, meanOf}
 use Rattle.clock.specs.Tests.{isAbove, isFollowing, elapsed, periodOver}

@@ -3,7 +3,7 @@
 use mathlib.Core.Bool.{Bool, false}
 use Prim.Native.Nat.{ℕ, _+_, _%_, _^_}
 use lib.Dec.{eqb, leb}
-use Rattle.clock.specs.Choice.{pick}
+use Rattle.ground.specs.Choice.{pick}
 use Rattle.clock.specs.Circle.{apartBy}
 use Rattle.clock.specs.Factor.{meanOf}
 use Rattle.clock.specs.Clocks.{synchronised}

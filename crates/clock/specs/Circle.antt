@@ -5,7 +5,7 @@ use Prim.Native.Nat.{ℕ, _+_, _-_, _%_, _^_}
 use lib.Dec.{ltb}
 use lib.IntN.{ℤ, pos, natAbs, _-ℤ_}
 use lib.Signed.{ltZ}
-use Rattle.clock.specs.Choice.{pick}
+use Rattle.ground.specs.Choice.{pick}
 
 -- a - b, modulo 2^32, of two numbers below 2^32.
 unfoldable pub minus : ℕ → ℕ → ℕ

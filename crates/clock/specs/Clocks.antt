@@ -4,7 +4,7 @@ use mathlib.Core.Bool.{Bool}
 use Prim.Native.Nat.{ℕ, _+_, _-_, _%_, _^_}
 use lib.Dec.{ltb}
 use lib.ListN.{replicate}
-use Rattle.clock.specs.Choice.{pick}
+use Rattle.ground.specs.Choice.{pick}
 use Rattle.clock.specs.Factor.{fronted, noPair, meanOf}
 use Rattle.clock.specs.Limits.{pairsOfFactor, timeForLongTermDriftCheck}
 use Rattle.clock.specs.declared.LocalTime.{LocalTime}

@@ -1,5 +1,4 @@
 pub mod Asking
-pub mod Choice
 pub mod Circle
 pub mod Clocks
 pub mod Events

@@ -3,17 +3,13 @@
 -- Assumes nothing.
 use mathlib.Core.Bool.{Bool, false}
 use mathlib.Core.List.{List}
-use Prim.Native.Nat.{ℕ, zero, suc, _+_, _*_}
+use Prim.Native.Nat.{ℕ}
 use lib.Dec.{eqb}
 use lib.ListN.{length, getD}
-use Rattle.clock.specs.Choice.{pick}
+use Rattle.ground.specs.Choice.{pick}
+use Rattle.ground.specs.Numbers.{numberAt}
 use Rattle.clock.specs.declared.Reading.{Reading}
 use Rattle.clock.specs.declared.Reading.the-variants.{Good, NotEleven, OtherPrefix}
-
--- The number that n bytes from a place on write.
-abbrev pub numberAt : ℕ → ℕ → List ℕ → ℕ
-numberAt zero at bs = 0
-numberAt (suc n) at bs = getD bs at 0 + 256 * numberAt n (at + 1) bs
 
 -- The configuration data prefix.
 unfoldable pub prefixed : List ℕ → Bool

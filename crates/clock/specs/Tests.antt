@@ -4,7 +4,7 @@ use mathlib.Core.Bool.{Bool, true, false}
 use mathlib.Core.List.{List, [], _∷_, _++_}
 use Prim.Native.Nat.{ℕ, _+_, _*_}
 use lib.Dec.{eqb, ltb, leb}
-use Rattle.clock.specs.Choice.{pick}
+use Rattle.ground.specs.Choice.{pick}
 use Rattle.clock.specs.Circle.{minus, laterThan, apartBy}
 use Rattle.clock.specs.Factor.{differenceOf}
 use Rattle.clock.specs.Limits.{pairsOfFactor, localClockMaxReSyncInterval, maxClockInaccuracy, timeForLongTermDriftCheck, minNumberOfMessages}

@@ -4,7 +4,7 @@ use mathlib.Core.Bool.{Bool}
 use mathlib.Core.List.{List, [], _++_}
 use Prim.Native.Nat.{ℕ}
 use lib.Dec.{eqb, ltb}
-use Rattle.clock.specs.Choice.{pick}
+use Rattle.ground.specs.Choice.{pick}
 use Rattle.clock.specs.Factor.{newestOf, meanOf}
 use Rattle.clock.specs.Tests.{isAbove, isFollowing, failing, standingTests, laterTests, pairTests, periodOver, periodTests}
 use Rattle.clock.specs.Clocks.{unsynchronised, synchronised, keptBy, begunAnew, forgotten, isolatedBy, pairedBy, synchronisedAt, resynchronisedAt, inPeriod}

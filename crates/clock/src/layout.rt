@@ -1,32 +1,14 @@
 // A Sync and Reference Time message from its bytes, 6.3.1.9.
 ghost use mathlib.Core.Path.{_≡_};
-ghost use Prim.Native.Nat.{_<_, _≤_, _+_};
 ghost use lib.ListN.{length};
-ghost use Rattle.clock.specs.Reading.{numberAt, prefixed, readBy};
+ghost use Rattle.clock.specs.Reading.{prefixed, readBy};
 use crate::Message;
 use crate::Reading;
 use crate::RefTime;
+use ground::number_at4;
 
 // How many bytes a message has.
 const BYTES: usize = 11;
-
-// A byte as a wider number.
-fn wide(x: u8) -> u32
-    ensures { λ n. ⌜ (n ≡ x) × (n < 256) ⌝ }
-{
-    x as u32
-}
-
-// The number of four bytes, lowest first (6.1.1.1).
-fn number_at(bytes: &[u8], at: usize) -> u32
-    requires { ⌜ (at < 8) × (at + 4 ≤ length (now bytes)) ⌝ }
-    ensures { λ n. ⌜ n ≡ numberAt 4 at (now (bytes .entry)) ⌝ }
-{
-    wide(bytes[at])
-        + 256
-            * (wide(bytes[at + 1])
-                + 256 * (wide(bytes[at + 1 + 1]) + 256 * wide(bytes[at + 1 + 1 + 1])))
-}
 
 // The configuration data prefix: 3, 0, 0.
 fn has_prefix(bytes: &[u8]) -> bool
@@ -52,8 +34,8 @@ pub fn read_message(bytes: &[u8]) -> Reading
     if !has_prefix(bytes) {
         return Reading::OtherPrefix;
     }
-    let number = number_at(bytes, 3);
-    let time = number_at(bytes, 7);
+    let number = number_at4(bytes, 3);
+    let time = number_at4(bytes, 7);
     let message = Message {
         number,
         reference: RefTime(time),

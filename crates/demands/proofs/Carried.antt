@@ -7,7 +7,7 @@ use Prim.Native.Nat.{ℕ, _≤_, _<_}
 use lib.ListN.{length, set}
 use lib.Dec.{T, eqb}
 use borrow.Author.Tests.{eqb-false, eq-eqb, ne-eqb, le-leb, lt-ltb}
-use Rattle.telegram.specs.Choice.{pick}
+use Rattle.ground.specs.Choice.{pick}
 use Rattle.telegram.specs.Layout.{longest}
 use Rattle.link.specs.declared.Record.{Record}
 use Rattle.link.specs.declared.Step.{Step}

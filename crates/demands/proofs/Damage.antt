@@ -13,7 +13,7 @@ use Rattle.checkword.specs.Bytes.{Bytes, Within}
 use Rattle.checkword.specs.Word.{word, Agrees}
 use Rattle.checkword.proofs.Bytes.{bytes-append, bytes-drop}
 use Rattle.checkword.proofs.Facts.{burst-of, agrees-by-remainder}
-use Rattle.telegram.specs.Choice.{pick}
+use Rattle.ground.specs.Choice.{pick}
 use Rattle.telegram.specs.Levels.{levelOf, width, wordLength, generator}
 use Rattle.telegram.specs.Commands.{kindOfCommand, known}
 use Rattle.telegram.specs.Layout.{onBus, suits, values}

@@ -20,9 +20,9 @@ use Rattle.checkword.specs.Word.{run, word}
 use Rattle.checkword.proofs.Xor.{xor-twice}
 use Rattle.checkword.proofs.Bytes.{bytes-take, bytes-drop}
 use Rattle.checkword.proofs.Run.{run-append, run-lt, run-lin, run-inj}
-use Rattle.telegram.specs.Choice.{pick}
+use Rattle.ground.specs.Choice.{pick}
 use Rattle.telegram.specs.Levels.{width, wordLength, generator}
-use Rattle.telegram.specs.Numbers.{lowestFirst}
+use Rattle.ground.specs.Numbers.{lowestFirst}
 use Rattle.telegram.specs.Values.{goodIdle}
 use Rattle.telegram.specs.Ends.{isLevel, implicit, receiving}
 use Rattle.telegram.specs.Check.{usedFor, checkOf}

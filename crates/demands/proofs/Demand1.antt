@@ -2,7 +2,7 @@
 -- Assumes nothing.
 use mathlib.Core.Path.{refl, _∙_}
 use borrow.Author.Tests.{ne-eqb}
-use Rattle.telegram.specs.Choice.{pick}
+use Rattle.ground.specs.Choice.{pick}
 use Rattle.telegram.specs.Writers.Outcome.{refused, wrote}
 use Rattle.link.specs.Steps.{refusedStep, openRefusal, openOf, openOut, closeRefusal, closeOf, closeOut, sendRefusal, sendOf, sendOut, receivedRefusal, receivedOf, receivedOut, tickRefusal, tickOf, tickOut}
 use Rattle.link.proofs.Answers.{answers}

@@ -10,7 +10,7 @@ use lib.Seq.{getD-set-same}
 use lib.Dec.{ltb, eqb}
 use borrow.Author.Tests.{eq-eqb, eqb-false, ne-eqb, le-leb, le-ltb, lt-ltb}
 use Rattle.checkword.specs.Bytes.{Bytes}
-use Rattle.telegram.specs.Choice.{pick}
+use Rattle.ground.specs.Choice.{pick}
 use Rattle.telegram.specs.Ends.{mirrored}
 use Rattle.telegram.specs.Levels.{topBits}
 use Rattle.telegram.specs.Fields.{lowOf}

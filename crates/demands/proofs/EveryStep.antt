@@ -7,7 +7,7 @@ use Prim.Native.Nat.{ℕ, _*_}
 use native.Mathlib.Omega.{arith}
 use lib.Dec.{leb, eqb}
 use borrow.Author.Tests.{eq-eqb, ne-eqb, eqb-true, eqb-false, leb-true}
-use Rattle.telegram.specs.Choice.{pick}
+use Rattle.ground.specs.Choice.{pick}
 use Rattle.link.specs.Times.{gap, watchOver, idleDue}
 use Rattle.link.specs.Judged.{runOut, ticked}
 use Rattle.link.specs.Steps.{quietly, refusedStep, tickRefusal, tickOf}

@@ -8,7 +8,7 @@ use Prim.Native.Nat.{ℕ, _+_, _≤_, _<_}
 use native.Mathlib.Omega.{arith}
 use lib.Dec.{ltb, eqb}
 use borrow.Author.Tests.{ne-eqb, eqb-true, eqb-false, le-leb, ltb-true, ltb-false, lt-ltb}
-use Rattle.telegram.specs.Choice.{pick}
+use Rattle.ground.specs.Choice.{pick}
 use Rattle.telegram.specs.Fields.{authenticationOf}
 use Rattle.telegram.specs.Commands.{kindOfCommand}
 use Rattle.telegram.specs.Telegrams.{authenticationNumber}

@@ -10,7 +10,7 @@ use lib.ListN.{length, set, take, getD}
 use lib.Seq.{getD-set-same}
 use lib.Dec.{eqb}
 use borrow.Author.Tests.{eq-eqb, le-ltb}
-use Rattle.telegram.specs.Choice.{pick, all}
+use Rattle.ground.specs.Choice.{pick, all}
 use Rattle.telegram.specs.Ends.{mirrored}
 use Rattle.telegram.specs.Layout.{values}
 use Rattle.telegram.specs.Fields.{randomOf, idleTimeOf, authenticationOf}

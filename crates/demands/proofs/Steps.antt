@@ -8,7 +8,7 @@ use Prim.Native.Nat.{ℕ, zero, suc}
 use native.Mathlib.Omega.{arith}
 use lib.ListN.{length, take, drop}
 use borrow.Author.Tests.{eq-eqb, ne-eqb}
-use Rattle.telegram.specs.Choice.{pick}
+use Rattle.ground.specs.Choice.{pick}
 use Rattle.telegram.specs.Commands.{kindOfCommand}
 use Rattle.telegram.specs.Writers.{answerOf, leftBy, unless}
 use Rattle.telegram.specs.Writers.Outcome.{wrote}

@@ -7,7 +7,7 @@ use Prim.Native.Nat.{ℕ, zero, suc, _+_, _≤_}
 use lib.ListN.{length, replicate}
 use lib.Dec.{lit≤}
 use borrow.Author.Tests.{le-leb, lt-ltb, ne-eqb}
-use Rattle.telegram.specs.Choice.{pick}
+use Rattle.ground.specs.Choice.{pick}
 use Rattle.telegram.specs.Levels.{topBits, wordLength, added, levelOf}
 use Rattle.telegram.specs.Commands.{isData, kindOf}
 use Rattle.telegram.specs.Layout.{longest, most}

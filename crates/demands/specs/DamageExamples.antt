@@ -12,7 +12,7 @@ use lib.Dec.{T, ltb, ltb→lt, lit≤}
 use Rattle.checkword.specs.Bytes.{Bytes, Within}
 use Rattle.checkword.specs.Generators.{generator48, generator32}
 use Rattle.checkword.specs.Word.{shift, feed}
-use Rattle.telegram.specs.Choice.{pick}
+use Rattle.ground.specs.Choice.{pick}
 use Rattle.telegram.specs.Levels.{topBits, width, wordLength, generator, levelOf}
 use Rattle.telegram.specs.Commands.{kindOfCommand, kindOf, isData}
 use Rattle.telegram.specs.Values.{goodIdle, goodDualBus, goodType, listedReason}

@@ -9,7 +9,7 @@ use lib.Dec.{T}
 use Rattle.checkword.specs.Bytes.{Within}
 use Rattle.checkword.specs.Generators.{generator48, generator32}
 use Rattle.checkword.specs.Word.{shift, feed}
-use Rattle.telegram.specs.Choice.{pick}
+use Rattle.ground.specs.Choice.{pick}
 use Rattle.telegram.specs.Levels.{width, wordLength, generator, levelOf}
 use Rattle.telegram.specs.Commands.{kindOf, isData}
 use Rattle.telegram.specs.Values.{goodIdle, goodDualBus}

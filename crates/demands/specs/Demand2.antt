@@ -7,7 +7,7 @@ use Prim.Native.Nat.{ℕ, _+_, _*_, _≤_, _<_}
 use lib.ListN.{length}
 use lib.Dec.{eqb}
 use Rattle.checkword.specs.Bytes.{Bytes}
-use Rattle.telegram.specs.Choice.{pick}
+use Rattle.ground.specs.Choice.{pick}
 use Rattle.telegram.specs.Writers.{dataAllowed, disconnectAllowed}
 use Rattle.telegram.specs.Check.{checkOf}
 use Rattle.telegram.specs.declared.Check.the-variants.{Passes}

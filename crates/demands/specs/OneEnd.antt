@@ -9,7 +9,7 @@ use Prim.Native.Nat.{ℕ, _+_, _≤_, _<_}
 use lib.ListN.{replicate}
 use Rattle.checkword.specs.Generators.{generator48, generator32}
 use Rattle.checkword.specs.Word.{shift, feed}
-use Rattle.telegram.specs.Choice.{pick}
+use Rattle.ground.specs.Choice.{pick}
 use Rattle.telegram.specs.Levels.{levelOf, topBits, width, wordLength, generator}
 use Rattle.telegram.specs.Fields.{authenticationOf}
 use Rattle.telegram.specs.Commands.{kindOfCommand, kindOf, isData}

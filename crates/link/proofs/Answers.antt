@@ -9,7 +9,7 @@ use native.Mathlib.Omega.{arith}
 use lib.ListN.{length}
 use lib.Dec.{leb, eqb}
 use borrow.Author.Tests.{le-leb, eqb-true}
-use Rattle.telegram.specs.Choice.{pick}
+use Rattle.ground.specs.Choice.{pick}
 use Rattle.telegram.specs.Ends.{inRange}
 use Rattle.telegram.specs.Values.{goodIdle, goodType, listedReason}
 use Rattle.telegram.specs.Layout.{longest, most}

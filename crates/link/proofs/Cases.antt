@@ -7,7 +7,7 @@ use Prim.Native.Nat.{ℕ, zero, suc, _*_, _≤_, _<_}
 use native.Mathlib.Omega.{arith}
 use lib.Dec.{leb, eqb}
 use borrow.Author.Tests.{le-leb, leb-true, eq-eqb, ne-eqb}
-use Rattle.telegram.specs.Choice.{pick, all, no}
+use Rattle.ground.specs.Choice.{pick, all, no}
 use Rattle.telegram.specs.Ends.{inRange}
 use Rattle.telegram.specs.Values.{goodIdle}
 use Rattle.telegram.specs.declared.Kind.{Kind}

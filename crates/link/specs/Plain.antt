@@ -3,7 +3,7 @@
 use mathlib.Core.Bool.{true, false}
 use Prim.Native.Nat.{ℕ}
 use lib.Dec.{eqb}
-use Rattle.telegram.specs.Choice.{pick}
+use Rattle.ground.specs.Choice.{pick}
 use Rattle.link.specs.declared.IdleTime.{IdleTime}
 use Rattle.link.specs.declared.Event.{Event}
 use Rattle.link.specs.declared.Event.the-variants.{Nothing, Opened, Data, Closed}

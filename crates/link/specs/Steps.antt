@@ -5,7 +5,7 @@ use mathlib.Core.List.{List, []}
 use Prim.Native.Nat.{ℕ, _+_, _%_, _^_}
 use lib.ListN.{length}
 use lib.Dec.{leb, eqb}
-use Rattle.telegram.specs.Choice.{pick}
+use Rattle.ground.specs.Choice.{pick}
 use Rattle.telegram.specs.Layout.{longest, onBus}
 use Rattle.telegram.specs.Fields.{randomOf, idleTimeOf, typeOf, reasonOf, lowOf}
 use Rattle.telegram.specs.Writers.{answerOf, leftBy, connectAllowed, disconnectAllowed, dataAllowed, writesRequest, writesConfirm, writesAuthentication, writesAcknowledgement, writesDisconnect, writesIdle, writesData}

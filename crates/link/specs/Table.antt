@@ -5,7 +5,7 @@ use mathlib.Core.List.{List, [], _∷_}
 use Prim.Native.Nat.{ℕ, _-_}
 use lib.ListN.{getD}
 use lib.Dec.{leb, eqb}
-use Rattle.telegram.specs.Choice.{pick, all}
+use Rattle.ground.specs.Choice.{pick, all}
 
 -- The actions of 5.5.1.4.
 pub data Action : Type 0 where

@@ -2,7 +2,7 @@
 ghost use mathlib.Core.Path.{_≡_};
 ghost use mathlib.Core.List.{[]};
 ghost use lib.Dec.{eqb};
-ghost use Rattle.telegram.specs.Choice.{pick};
+ghost use Rattle.ground.specs.Choice.{pick};
 ghost use Rattle.telegram.specs.Fields.{typeOf, reasonOf, lowOf};
 ghost use Rattle.telegram.specs.NetData.{netPart};
 ghost use Rattle.telegram.specs.Writers.{answerOf, leftBy, writesDisconnect, writesIdle};

@@ -37,7 +37,7 @@ use denote.Triple.Statement.{Contract, Triple}
 use denote.Triple.Call.{calls-at}
 use Rattle.link.specs.declared.Record.{Record}
 use Rattle.node.proofs.Rows.{R}
-use Rattle.node.proofs.Frame.{Cell, frameOf, withAt, In, lands-as}
+use Rattle.ground.proofs.Frame.{Cell, frameOf, withAt, In, lands-as}
 
 module _ (T : Declared) (L : LL.Laws T) where
   pub told : (y : T .D) (w : Val) → Is (rowOf T) y (w ∷ []) → Is (rowOf T) y (LL.vals T L y) × (w ≡ LL.val T L y)

@@ -8,7 +8,7 @@ use lib.ListN.{length, take, drop}
 use lib.Dec.{leb}
 use borrow.Author.Tests.{le-leb, lt-leb}
 use types.Run.{OneOf, miss}
-use Rattle.telegram.specs.Choice.{yes, no}
+use Rattle.ground.specs.Choice.{yes, no}
 use denote.Enum.Declared.{tagOf}
 use Rattle.telegram.specs.declared.Part.{Part}
 use Rattle.link.proofs.Event as E

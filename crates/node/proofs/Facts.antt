@@ -10,7 +10,7 @@ use lib.ListN.{length, set, length-set}
 use lib.Seq.{getD-set-other}
 use lib.Dec.{T, leb, eqb}
 use borrow.Author.Tests.{leb-true, le-leb, eqb-true, eqb-false, ne-eqb, eq-eqb}
-use Rattle.telegram.specs.Choice.{pick, all, yes}
+use Rattle.ground.specs.Choice.{pick, all, yes}
 use Rattle.telegram.specs.NetData.{netPart, netData}
 use Rattle.telegram.specs.declared.Written.{Written}
 use Rattle.telegram.proofs.Refusals.{both-true, both-are}

@@ -1,13 +1,10 @@
 pub mod Calling
 pub mod Cases
 pub mod Facts
-pub mod Frame
 pub mod Known
-pub mod Meeting
 pub mod Order
 pub mod Rows
 pub mod Searches
 pub mod Shared
 pub mod Stepping
-pub mod Walk
 pub mod Walking

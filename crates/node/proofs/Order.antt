@@ -10,7 +10,7 @@ use Prim.Native.Nat.{ℕ, zero, suc, _<_}
 use native.Mathlib.Nat.{not-suc-le-zero, le-of-suc-le-suc}
 use lib.ListN.{length, set}
 use lib.Dec.{T, leb, ltb, eqb, ltb→lt}
-use Rattle.telegram.specs.Choice.{pick, all}
+use Rattle.ground.specs.Choice.{pick, all}
 use Rattle.telegram.specs.Layout.{longest}
 use Rattle.telegram.proofs.Refusals.{both-true}
 use Rattle.link.specs.Records.{recordInRange}

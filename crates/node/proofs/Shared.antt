@@ -55,7 +55,7 @@ use Rattle.node.proofs.Outcome.Laws as O′
 use Rattle.node.proofs.PlainOutcome as PO
 use Rattle.node.proofs.PlainOutcome.Laws as PO′
 use Rattle.node.proofs.Rows.{R}
-use Rattle.node.proofs.Frame.{Cell, some, none-away, frameOf, withAt, heldIn, In, val, gives}
+use Rattle.ground.proofs.Frame.{Cell, some, none-away, frameOf, withAt, heldIn, In, val, gives}
 use Rattle.node.proofs.Calling.{told, lands-struct, lent, loan, calls-value, calls-lent}
 use Rattle.node.proofs.outcomes.settle as g-settles
 use Rattle.node.proofs.outcomes.settle.Symbol.{name as #g-settles}

@@ -47,8 +47,9 @@ use Rattle.node.proofs.Head as HD
 use Rattle.node.proofs.Head.Laws as HD′
 use Rattle.node.proofs.Outcome as O
 use Rattle.node.proofs.Outcome.Laws as O′
-use Rattle.node.proofs.Rows.{R, val as valOf, vals as valsOf, makes, typed, place-of, byte-fits, row-out, obs-finally}
-use Rattle.node.proofs.Frame.{Cell, some, none-away, frameOf, withAt, heldIn, In, local, typed-as, val, sets, gives, gives-within}
+use Rattle.node.proofs.Rows.{R, val as valOf, vals as valsOf, makes, typed, place-of, byte-fits, row-out}
+use Rattle.ground.proofs.Meeting.{obs-finally}
+use Rattle.ground.proofs.Frame.{Cell, some, none-away, frameOf, withAt, heldIn, In, local, typed-as, val, sets, gives, gives-within}
 use Rattle.node.proofs.Calling.{told, lands-struct, made-struct}
 use Rattle.node.proofs.Shared.{Settle, settles, Refuse, refuses, own-fits}
 use Rattle.node.proofs.outcomes.settle.Symbol.{name as #settle}

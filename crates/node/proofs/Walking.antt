@@ -31,9 +31,9 @@ pub use denote.Triple.End.{lastsOf, all}
 pub use denote.Exit.{yes}
 pub use denote.Signature.{typesAt}
 pub use denote.Triple.Entry.{Args}
-pub use Rattle.node.proofs.Walk.{guards}
-pub use Rattle.node.proofs.Frame.{local, val, vals, sets, lands-as, reborrows, lifts, gives}
-pub use Rattle.node.proofs.Meeting.{Param, number, spells, tellss, lawfuls, Met, bound, values, Walk, enters-by, ends, slotsOf, sames, all-stay, ownsEach, lastsEach, exchange, exchanged, inRow, leads, silent, truth, calls-said}
+pub use Rattle.ground.proofs.Walk.{guards}
+pub use Rattle.ground.proofs.Frame.{local, val, vals, sets, lands-as, reborrows, lifts, gives}
+pub use Rattle.ground.proofs.Meeting.{Param, number, spells, tellss, lawfuls, Met, bound, values, Walk, enters-by, ends, slotsOf, sames, all-stay, ownsEach, lastsEach, exchange, exchanged, inRow, leads, silent, truth, calls-said}
 pub use Rattle.node.proofs.Shared.{Ask, asks-first, Refuse, Settle, Match, matches, Carry, carries, Plain, NameIdle, NameRoute, returns-plain, names-idle, names-route}
 pub use Rattle.node.proofs.Order.{Said, refused-by-table, placed, left-by-step}
 pub use Rattle.node.proofs.Searches.{not-not}
@@ -41,7 +41,7 @@ pub use Rattle.node.proofs.Stepping.{opens-table, takes, hands, hands-t
 pub use Rattle.node.proofs.Calling.{told, lent, lands-struct, made-struct}
 use denote.Signature.{AllWithin}
 use Prim.Native.Nat.{ℕ}
-use Rattle.node.proofs.Meeting.{struct, mut-slice, shr-slice}
+use Rattle.ground.proofs.Meeting.{struct, mut-slice, shr-slice}
 use Rattle.node.proofs.Rows.{R}
 use Rattle.link.proofs.Record as T
 use Rattle.link.proofs.Record.Laws as T′

@@ -5,7 +5,7 @@ use mathlib.Core.List.{List, [], _∷_}
 use Prim.Native.Nat.{ℕ}
 use lib.ListN.{length, getD}
 use lib.Dec.{leb, eqb}
-use Rattle.telegram.specs.Choice.{pick, all}
+use Rattle.ground.specs.Choice.{pick, all}
 use Rattle.link.specs.Records.{recordInRange}
 use Rattle.link.specs.declared.Record.{Record}
 use Rattle.node.specs.declared.Head.{Head}

@@ -5,7 +5,7 @@ use mathlib.Core.List.{List}
 use Prim.Native.Nat.{ℕ}
 use lib.ListN.{length, set}
 use lib.Dec.{leb, ltb, eqb}
-use Rattle.telegram.specs.Choice.{pick}
+use Rattle.ground.specs.Choice.{pick}
 use Rattle.telegram.specs.Layout.{longest, onBus}
 use Rattle.telegram.specs.Writers.{connectAllowed, disconnectAllowed, dataAllowed}
 use Rattle.link.specs.Steps.{neb, declaredBy, openOf, openOut, closeOf, closeOut, sendOf, sendOut, receivedOf, receivedOut, tickOf, tickOut}

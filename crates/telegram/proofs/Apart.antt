@@ -13,11 +13,11 @@ use Rattle.checkword.specs.Bytes.{Bytes, number, Within}
 use Rattle.checkword.specs.Word.{word}
 use Rattle.checkword.proofs.Bytes.{bytes-append, bytes-take}
 use Rattle.checkword.proofs.Facts.{burst-of}
-use Rattle.telegram.specs.Choice.{pick}
+use Rattle.ground.specs.Choice.{pick}
 use Rattle.telegram.specs.Levels.{levelOf, width, generator}
 use Rattle.telegram.specs.Commands.{kindOfCommand, known}
 use Rattle.telegram.specs.Layout.{onBus, suits, values}
-use Rattle.telegram.specs.Numbers.{lowestFirst}
+use Rattle.ground.specs.Numbers.{lowestFirst}
 use Rattle.telegram.specs.Ends.{inRange, implicit, receiving}
 use Rattle.telegram.specs.Values.{goodFields}
 use Rattle.telegram.specs.Telegrams.{checkWord}

@@ -10,7 +10,7 @@ use lib.ListN.{length, getD, length-append}
 use lib.Seq.{getD-append-add}
 use Rattle.checkword.specs.Bytes.{Bytes}
 use Rattle.checkword.proofs.Bytes.{bytes-append}
-use Rattle.telegram.specs.Numbers.{lowestFirst, numberAt}
+use Rattle.ground.specs.Numbers.{lowestFirst, numberAt}
 use Rattle.telegram.specs.Layout.{sum, fieldBytes, fieldsAt}
 use Rattle.telegram.specs.Ends.{implicit}
 

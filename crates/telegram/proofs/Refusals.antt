@@ -9,7 +9,7 @@ use native.Mathlib.Omega.{arith}
 use lib.ListN.{length}
 use lib.Dec.{leb, eqb}
 use borrow.Author.Tests.{leb-true, eqb-true, ne-eqb}
-use Rattle.telegram.specs.Choice.{pick, all}
+use Rattle.ground.specs.Choice.{pick, all}
 use Rattle.telegram.specs.Levels.{wordLength}
 use Rattle.telegram.specs.Commands.{isData, kindOf, known}
 use Rattle.telegram.specs.Layout.{longest, header, most, onBus, suits, fieldBytes}

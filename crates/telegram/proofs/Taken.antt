@@ -16,7 +16,7 @@ use borrow.Author.Tests.{leb-true, le-leb, eqb-true, eq-eqb}
 use Rattle.checkword.specs.Bytes.{Bytes, number, bytesOf}
 use Rattle.checkword.proofs.Bytes.{bytes-append, number-bytesOf}
 use Rattle.checkword.proofs.Facts.{below}
-use Rattle.telegram.specs.Choice.{pick, all}
+use Rattle.ground.specs.Choice.{pick, all}
 use Rattle.telegram.specs.Levels.{topBits, width, wordLength, generator, added, levelOf}
 use Rattle.telegram.specs.Commands.{kindOf, kindOfCommand, known}
 use Rattle.telegram.specs.Layout.{layout, header, most, onBus, suits, fieldBytes, values}

@@ -10,7 +10,7 @@ use Rattle.checkword.specs.Bytes.{bytesOf}
 use Rattle.checkword.specs.Word.{word}
 use Rattle.checkword.specs.Polynomial.{Generator}
 use Rattle.checkword.specs.Generators.{generator48, generator32, good48, good32}
-use Rattle.telegram.specs.Choice.{pick}
+use Rattle.ground.specs.Choice.{pick}
 use Rattle.telegram.specs.Levels.{topBits, width, wordLength, generator}
 use Rattle.telegram.specs.Telegrams.{checkWord}
 

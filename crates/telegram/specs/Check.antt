@@ -6,7 +6,7 @@ use Prim.Native.Nat.{ℕ, _-_, _%_}
 use lib.ListN.{length, take, drop, getD}
 use lib.Dec.{eqb}
 use Rattle.checkword.specs.Bytes.{number}
-use Rattle.telegram.specs.Choice.{pick}
+use Rattle.ground.specs.Choice.{pick}
 use Rattle.telegram.specs.Levels.{levelOf, wordLength}
 use Rattle.telegram.specs.Commands.{kindOfCommand, known}
 use Rattle.telegram.specs.Layout.{onBus, suits, values}

@@ -4,8 +4,8 @@ use mathlib.Core.Bool.{Bool, true}
 use mathlib.Core.List.{List, [], _∷_}
 use Prim.Native.Nat.{ℕ, _/_, _%_}
 use lib.Dec.{leb, eqb}
-use Rattle.telegram.specs.Choice.{pick, all}
-use Rattle.telegram.specs.Numbers.{lowestFirst}
+use Rattle.ground.specs.Choice.{pick, all}
+use Rattle.ground.specs.Numbers.{lowestFirst}
 use Rattle.telegram.specs.declared.End.{End}
 
 -- The levels that there are.

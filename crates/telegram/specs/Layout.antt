@@ -5,8 +5,8 @@ use mathlib.Core.Bool.{Bool}
 use mathlib.Core.List.{List, [], _∷_, _++_}
 use Prim.Native.Nat.{ℕ, _+_, _-_}
 use lib.Dec.{leb}
-use Rattle.telegram.specs.Choice.{all}
-use Rattle.telegram.specs.Numbers.{lowestFirst, numberAt}
+use Rattle.ground.specs.Choice.{all}
+use Rattle.ground.specs.Numbers.{lowestFirst, numberAt}
 use Rattle.telegram.specs.Levels.{wordLength}
 use Rattle.telegram.specs.declared.Kind.{Kind}
 use Rattle.telegram.specs.declared.Kind.the-variants.{Request, Confirm, Authentication, Acknowledgement, Disconnect, Idle, Data, Unknown}

@@ -3,7 +3,7 @@
 use Prim.Native.Nat.{ℕ, _/_}
 use lib.Dec.{eqb}
 use Rattle.checkword.specs.Generators.{generator48, generator32}
-use Rattle.telegram.specs.Choice.{pick}
+use Rattle.ground.specs.Choice.{pick}
 use Rattle.telegram.specs.declared.Level.{Level}
 use Rattle.telegram.specs.declared.Level.the-variants.{Sl, Unassigned}
 

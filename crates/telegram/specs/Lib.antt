@@ -1,5 +1,3 @@
-pub mod Choice
-pub mod Numbers
 pub mod Levels
 pub mod Commands
 pub mod Layout

@@ -5,7 +5,7 @@ use mathlib.Core.List.{List, [], _∷_}
 use Prim.Native.Nat.{ℕ, _%_}
 use lib.ListN.{getD}
 use lib.Dec.{leb, eqb}
-use Rattle.telegram.specs.Choice.{pick, all}
+use Rattle.ground.specs.Choice.{pick, all}
 use Rattle.telegram.specs.declared.Kind.{Kind}
 use Rattle.telegram.specs.declared.Kind.the-variants.{Request, Confirm, Authentication, Acknowledgement, Disconnect, Idle, Data, Unknown}
 

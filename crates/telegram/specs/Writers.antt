@@ -5,7 +5,7 @@ use mathlib.Core.List.{List, [], _∷_, _++_}
 use Prim.Native.Nat.{ℕ, zero, suc}
 use lib.ListN.{length, drop}
 use lib.Dec.{leb}
-use Rattle.telegram.specs.Choice.{pick, all}
+use Rattle.ground.specs.Choice.{pick, all}
 use Rattle.telegram.specs.Commands.{isData}
 use Rattle.telegram.specs.Layout.{longest, most}
 use Rattle.telegram.specs.Ends.{inRange}

@@ -20,14 +20,14 @@ use crate::layout::on_bus;
 use crate::levels::level_of;
 use crate::levels::word_length;
 use crate::levels::word_of;
-use crate::numbers::byte;
-use crate::numbers::number_at1;
-use crate::numbers::number_at2;
-use crate::numbers::number_at4;
 use crate::numbers::number_of;
 use crate::values::good_dual_bus;
 use crate::values::good_idle;
 use crate::values::good_type;
+use ground::byte;
+use ground::number_at1;
+use ground::number_at2;
+use ground::number_at4;
 
 // Whether a command is of the level.
 fn of_level(command: u8, level: u32) -> bool

@@ -5,10 +5,10 @@ ghost use Rattle.telegram.specs.Check.{commandOf};
 ghost use Rattle.telegram.specs.Fields.{randomOf, idleTimeOf, versionXOf, versionYOf, authenticationOf, typeOf, reasonOf, lowOf};
 use crate::Kind;
 use crate::commands::kind_of;
-use crate::numbers::byte;
-use crate::numbers::number_at1;
-use crate::numbers::number_at2;
-use crate::numbers::number_at4;
+use ground::byte;
+use ground::number_at1;
+use ground::number_at2;
+use ground::number_at4;
 
 // The command's low six bits.
 pub fn command_low(telegram: &[u8]) -> u32

@@ -1,7 +1,7 @@
 // Where the net data of a telegram lie, and the net data as that part of it.
 ghost use mathlib.Core.Path.{_≡_};
 ghost use mathlib.Core.List.{[], _∷_};
-ghost use Rattle.telegram.specs.Choice.{all};
+ghost use Rattle.ground.specs.Choice.{all};
 ghost use Rattle.telegram.specs.Commands.{known};
 ghost use Rattle.telegram.specs.Layout.{suits};
 ghost use Rattle.telegram.specs.Ends.{isLevel};
@@ -16,7 +16,7 @@ use crate::layout::header_length;
 use crate::layout::length_suits;
 use crate::levels::level_of;
 use crate::levels::word_length;
-use crate::numbers::byte;
+use ground::byte;
 
 // Whether a level, kind and length are a telegram's.
 fn is_telegram(level: u32, kind: Kind, length: usize) -> bool

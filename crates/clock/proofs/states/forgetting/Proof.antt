@@ -1,14 +1,13 @@
 -- `clock::states::forgetting` meets its contract.
 -- Assumes nothing.
-use borrow.Author.Needs.{needs}
-use Rattle.clock.specs.Choice.{tests}
+use Rattle.ground.specs.Choice.{tests}
 use Rattle.clock.specs.Clocks.{forgotten}
 use Rattle.clock.proofs.states.forgetting.Statement.{statement}
 use Rattle.clock.proofs.states.forgetting.Tie as tie
 
 returns : tie.Need-returns
 unfolding forgotten
-returns c = search (tests, needs) depth 16
+returns c = search tests depth 16
 
 pub forgetting-spec : {M : Type 1} → statement M
 forgetting-spec = tie.close (tie.spec returns)

@@ -1,7 +1,7 @@
 -- `clock::states::synchronised` meets its contract.
 -- Assumes nothing.
 use borrow.Author.Needs.{needs}
-use Rattle.clock.specs.Choice.{tests}
+use Rattle.ground.specs.Choice.{tests}
 use Rattle.clock.specs.Clocks.{synchronisedAt}
 use Rattle.clock.proofs.states.synchronised.Statement.{statement}
 use Rattle.clock.proofs.states.synchronised.Tie as tie
@@ -11,7 +11,7 @@ mean-requires c κs = search needs
 
 returns : tie.Need-returns
 unfolding synchronisedAt
-returns c = rw (← c .mean .ensures) (search (tests, needs) depth 16)
+returns c = rw (← c .mean .ensures) (search tests depth 16)
 
 pub synchronised-spec : {M : Type 1} → statement M
 synchronised-spec = tie.close (tie.spec mean-requires returns)

@@ -1,7 +1,7 @@
 -- `clock::updates::anew` meets its contract.
 -- Assumes nothing.
 use borrow.Author.Needs.{needs}
-use Rattle.clock.specs.Choice.{tests}
+use Rattle.ground.specs.Choice.{tests}
 use Rattle.clock.specs.Updates.{anewBy}
 use Rattle.clock.proofs.updates.anew.Statement.{statement}
 use Rattle.clock.proofs.updates.anew.Tie as tie
@@ -14,7 +14,7 @@ kept-requires c κs = search needs
 
 returns : tie.Need-returns
 unfolding anewBy
-returns c = rw (← c .before .begun-anew .ensures, ← c .kept .ensures) (search (tests, needs) depth 16)
+returns c = rw (← c .before .begun-anew .ensures, ← c .kept .ensures) (search tests depth 16)
 
 pub anew-spec : {M : Type 1} → statement M
 anew-spec = tie.close (tie.spec begun-anew-requires kept-requires returns)

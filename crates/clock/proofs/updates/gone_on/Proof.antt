@@ -1,7 +1,7 @@
 -- `clock::updates::gone_on` meets its contract: each call's result put for its definition.
 -- Assumes nothing.
 use borrow.Author.Needs.{needs}
-use Rattle.clock.specs.Choice.{tests}
+use Rattle.ground.specs.Choice.{tests}
 use Rattle.clock.specs.Updates.{goneOn}
 use Rattle.clock.proofs.updates.gone_on.Statement.{statement}
 use Rattle.clock.proofs.updates.gone_on.Tie as tie
@@ -20,7 +20,7 @@ kept-requires c κs = search needs
 
 returns : tie.Need-returns
 unfolding goneOn
-returns c = rw (← c .before .before .before .pair-taken .ensures, ← c .before .before .period-over .ensures, ← c .before .in-period .ensures, ← c .kept .ensures) (search (tests, needs) depth 16)
+returns c = rw (← c .before .before .before .pair-taken .ensures, ← c .before .before .period-over .ensures, ← c .before .in-period .ensures, ← c .kept .ensures) (search tests depth 16)
 
 pub gone-on-spec : {M : Type 1} → statement M
 gone-on-spec =

@@ -1,7 +1,7 @@
 -- `clock::updates::lost` meets its contract.
 -- Assumes nothing.
 use borrow.Author.Needs.{needs}
-use Rattle.clock.specs.Choice.{tests}
+use Rattle.ground.specs.Choice.{tests}
 use Rattle.clock.specs.Updates.{lostBy}
 use Rattle.clock.proofs.updates.lost.Statement.{statement}
 use Rattle.clock.proofs.updates.lost.Tie as tie
@@ -11,7 +11,7 @@ isolated-requires c κs = search needs
 
 returns : tie.Need-returns
 unfolding lostBy
-returns c = rw (← c .isolated .ensures) (search (tests, needs) depth 16)
+returns c = rw (← c .isolated .ensures) (search tests depth 16)
 
 pub lost-spec : {M : Type 1} → statement M
 lost-spec = tie.close (tie.spec isolated-requires returns)

@@ -1,7 +1,7 @@
 -- `clock::updates::pair_failing` meets its contract.
 -- Assumes nothing.
 use borrow.Author.Needs.{needs}
-use Rattle.clock.specs.Choice.{tests}
+use Rattle.ground.specs.Choice.{tests}
 use Rattle.clock.proofs.Cases.{asked-told}
 use Rattle.clock.proofs.updates.pair_failing.Statement.{statement}
 use Rattle.clock.proofs.updates.pair_failing.Tie as tie
@@ -10,7 +10,7 @@ follows-requires : tie.Need-follows-requires
 follows-requires c κs = search needs
 
 returns : tie.Need-returns
-returns c = asked-told _ _ _ (rw (← c .before .follows .ensures) (search (tests, needs) depth 16))
+returns c = asked-told _ _ _ (rw (← c .before .follows .ensures) (search tests depth 16))
 
 pair-of-requires : tie.Need-pair-of-requires
 pair-of-requires c κs = search needs
@@ -22,7 +22,7 @@ pair-test-requires : tie.Need-pair-test-requires
 pair-test-requires c κs = search needs
 
 returns-2 : tie.Need-returns-2
-returns-2 c = asked-told _ _ _ (rw (← c .before .before .before .before .before .follows .ensures, ← c .before .before .before .pair-of .ensures, ← c .before .newest .ensures, ← c .pair-test .ensures) (search (tests, needs) depth 16))
+returns-2 c = asked-told _ _ _ (rw (← c .before .before .before .before .before .follows .ensures, ← c .before .before .before .pair-of .ensures, ← c .before .newest .ensures, ← c .pair-test .ensures) (search tests depth 16))
 
 pub pair-failing-spec : {M : Type 1} → statement M
 pair-failing-spec =

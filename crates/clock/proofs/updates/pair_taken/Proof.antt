@@ -1,7 +1,7 @@
 -- `clock::updates::pair_taken` meets its contract.
 -- Assumes nothing.
 use borrow.Author.Needs.{needs}
-use Rattle.clock.specs.Choice.{tests}
+use Rattle.ground.specs.Choice.{tests}
 use Rattle.clock.specs.Updates.{pairTaken}
 use Rattle.clock.proofs.updates.pair_taken.Statement.{statement}
 use Rattle.clock.proofs.updates.pair_taken.Tie as tie
@@ -11,7 +11,7 @@ follows-requires c κs = search needs
 
 returns : tie.Need-returns
 unfolding pairTaken
-returns c = rw (← c .before .follows .ensures) (search (tests, needs) depth 16)
+returns c = rw (← c .before .follows .ensures) (search tests depth 16)
 
 pair-of-requires : tie.Need-pair-of-requires
 pair-of-requires c κs = search needs
@@ -24,7 +24,7 @@ resynchronised-requires c κs = search needs
 
 returns-2 : tie.Need-returns-2
 unfolding pairTaken
-returns-2 c = rw (← c .before .before .before .before .follows .ensures, ← c .before .before .pair-of .ensures, ← c .before .paired .ensures, ← c .resynchronised .ensures) (search (tests, needs) depth 16)
+returns-2 c = rw (← c .before .before .before .before .follows .ensures, ← c .before .before .pair-of .ensures, ← c .before .paired .ensures, ← c .resynchronised .ensures) (search tests depth 16)
 
 pub pair-taken-spec : {M : Type 1} → statement M
 pair-taken-spec =

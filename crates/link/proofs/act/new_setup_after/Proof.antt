@@ -1,7 +1,7 @@
 -- `link::act::new_setup_after` meets its contract.
 -- Assumes nothing.
 use borrow.Author.Needs.{needs}
-use Rattle.telegram.specs.Choice.{tests}
+use Rattle.ground.specs.Choice.{tests}
 use Rattle.link.proofs.act.new_setup_after.Statement.{statement}
 use Rattle.link.proofs.act.new_setup_after.Tie as tie
 

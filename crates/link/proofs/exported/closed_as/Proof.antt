@@ -1,6 +1,6 @@
 -- `link::exported::closed_as` meets its contract.
 -- Assumes nothing.
-use Rattle.telegram.specs.Choice.{pick}
+use Rattle.ground.specs.Choice.{pick}
 use Rattle.link.proofs.exported.closed_as.Statement.{statement}
 use Rattle.link.proofs.exported.closed_as.Tie as tie
 

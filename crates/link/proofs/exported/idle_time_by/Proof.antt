@@ -1,7 +1,7 @@
 -- `link::exported::idle_time_by` meets its contract.
 -- Assumes nothing.
 use borrow.Author.Tests.{eq-eqb, ne-eqb}
-use Rattle.telegram.specs.Choice.{pick}
+use Rattle.ground.specs.Choice.{pick}
 use Rattle.link.specs.Plain.{idleTimeBy}
 use Rattle.link.proofs.exported.idle_time_by.Statement.{statement}
 use Rattle.link.proofs.exported.idle_time_by.Tie as tie

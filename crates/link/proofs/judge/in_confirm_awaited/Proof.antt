@@ -1,7 +1,7 @@
 -- `link::judge::in_confirm_awaited` meets its contract: the column wConAck, kind by kind.
 -- Assumes nothing.
 use borrow.Author.Needs.{needs}
-use Rattle.telegram.specs.Choice.{pick}
+use Rattle.ground.specs.Choice.{pick}
 use Rattle.link.proofs.Cases.{kind-ruled}
 use Rattle.link.proofs.judge.in_confirm_awaited.Statement.{statement}
 use Rattle.link.proofs.judge.in_confirm_awaited.Tie as tie

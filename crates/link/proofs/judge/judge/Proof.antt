@@ -1,7 +1,7 @@
 -- `link::judge::judge` meets its contract: what ran out first, then the check.
 -- Assumes nothing.
 use borrow.Author.Needs.{needs}
-use Rattle.telegram.specs.Choice.{tests}
+use Rattle.ground.specs.Choice.{tests}
 use Rattle.link.specs.Judged.{judged}
 use Rattle.link.proofs.judge.judge.Statement.{statement}
 use Rattle.link.proofs.judge.judge.Tie as tie
@@ -14,7 +14,7 @@ run-out-verdict-requires c κs = search needs
 
 returns : tie.Need-returns
 unfolding judged
-returns c = rw (← c .before .before .run-out .ensures, ← c .run-out-verdict .ensures) (search (tests, needs) depth 16)
+returns c = rw (← c .before .before .run-out .ensures, ← c .run-out-verdict .ensures) (search tests depth 16)
 
 end-of-requires : tie.Need-end-of-requires
 end-of-requires c κs = search needs
@@ -30,7 +30,7 @@ judge-checked-requires c κs = search needs
 
 returns-2 : tie.Need-returns-2
 unfolding judged
-returns-2 c = rw (← c .before .before .before .before .before .run-out .ensures, ← c .before .before .before .end-of .ensures, ← c .before .before .expected-now .ensures, ← c .before .checked .ensures, ← c .judge-checked .ensures) (search (tests, needs) depth 16)
+returns-2 c = rw (← c .before .before .before .before .before .run-out .ensures, ← c .before .before .before .end-of .ensures, ← c .before .before .expected-now .ensures, ← c .before .checked .ensures, ← c .judge-checked .ensures) (search tests depth 16)
 
 pub judge-spec : {M : Type 1} → statement M
 judge-spec =

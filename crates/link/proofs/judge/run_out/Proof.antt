@@ -1,7 +1,7 @@
 -- `link::judge::run_out` meets its contract.
 -- Assumes nothing.
 use borrow.Author.Needs.{needs}
-use Rattle.telegram.specs.Choice.{tests}
+use Rattle.ground.specs.Choice.{tests}
 use Rattle.link.specs.Judged.{runOut}
 use Rattle.link.proofs.judge.run_out.Statement.{statement}
 use Rattle.link.proofs.judge.run_out.Tie as tie
@@ -11,22 +11,22 @@ watch-over-requires c κs = search needs
 
 returns : tie.Need-returns
 unfolding runOut
-returns c = rw (← c .watch-over .ensures) (search (tests, needs) depth 16)
+returns c = rw (← c .watch-over .ensures) (search tests depth 16)
 
 returns-2 : tie.Need-returns-2
 unfolding runOut
-returns-2 c = search (tests, needs) depth 16
+returns-2 c = search tests depth 16
 
 returns-3 : tie.Need-returns-3
 unfolding runOut
-returns-3 c = search (tests, needs) depth 16
+returns-3 c = search tests depth 16
 
 wait-over-requires : tie.Need-wait-over-requires
 wait-over-requires c κs = search needs
 
 returns-4 : tie.Need-returns-4
 unfolding runOut
-returns-4 c = rw (← c .wait-over .ensures) (search (tests, needs) depth 16)
+returns-4 c = rw (← c .wait-over .ensures) (search tests depth 16)
 
 pub run-out-spec : {M : Type 1} → statement M
 run-out-spec =

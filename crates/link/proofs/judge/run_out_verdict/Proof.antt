@@ -2,7 +2,7 @@
 -- Assumes nothing.
 use native.Mathlib.Omega.{arith}
 use borrow.Author.Tests.{ne-eqb}
-use Rattle.telegram.specs.Choice.{pick, no}
+use Rattle.ground.specs.Choice.{pick, no}
 use Rattle.link.specs.Judged.{runOutVerdict}
 use Rattle.link.proofs.Cases.{unanswered}
 use Rattle.link.proofs.judge.run_out_verdict.Statement.{statement}

@@ -1,7 +1,7 @@
 -- `link::records::closed_by` meets its contract: a fresh record of the same connection, in the phase that it ends in.
 -- Assumes nothing.
 use borrow.Author.Needs.{needs}
-use Rattle.telegram.specs.Choice.{pick}
+use Rattle.ground.specs.Choice.{pick}
 use Rattle.link.specs.Records.{freshOf, become, closedBy}
 use Rattle.link.proofs.records.closed_by.Statement.{statement}
 use Rattle.link.proofs.records.closed_by.Tie as tie

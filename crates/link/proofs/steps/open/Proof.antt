@@ -3,7 +3,7 @@
 use mathlib.Core.Path.{refl}
 use borrow.Author.Tests.{eq-eqb, ne-eqb}
 use borrow.Author.Needs.{needs}
-use Rattle.telegram.specs.Choice.{yes, no}
+use Rattle.ground.specs.Choice.{yes, no}
 use Rattle.link.specs.Steps.{openOf, openOut, openRefusal}
 use Rattle.link.proofs.steps.open.Statement.{statement}
 use Rattle.link.proofs.steps.open.Tie as tie

@@ -2,7 +2,7 @@
 -- Assumes nothing.
 use native.Mathlib.Omega.{arith}
 use borrow.Author.Needs.{needs}
-use Rattle.telegram.specs.Choice.{tests}
+use Rattle.ground.specs.Choice.{tests}
 use Rattle.link.specs.Times.{idleDue}
 use Rattle.link.proofs.Cases.{due}
 use Rattle.link.proofs.times.idle_due.Statement.{statement}
@@ -10,7 +10,7 @@ use Rattle.link.proofs.times.idle_due.Tie as tie
 
 returns : tie.Need-returns
 unfolding idleDue
-returns c = search (tests, needs) depth 16
+returns c = search tests depth 16
 
 gap-since-requires : tie.Need-gap-since-requires
 gap-since-requires c κs = search needs
@@ -27,7 +27,7 @@ mul-result c = search needs
 
 returns-3 : tie.Need-returns-3
 unfolding idleDue
-returns-3 c = rw (← c .before .before .gap-since .ensures) (search (tests, needs) depth 16)
+returns-3 c = rw (← c .before .before .gap-since .ensures) (search tests depth 16)
 
 pub idle-due-spec : {M : Type 1} → statement M
 idle-due-spec =

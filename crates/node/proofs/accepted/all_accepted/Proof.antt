@@ -55,7 +55,7 @@ use Rattle.node.proofs.Head as K
 use Rattle.node.proofs.Head.Laws as K′
 use Rattle.node.proofs.Rows.{R, vals, makes, typed, place-of, byte-fits, looks-rows, row-out}
 use Rattle.node.proofs.Searches.{Good, good-all, good-not, good-later}
-use Rattle.node.proofs.Walk.{while-lt, breaks, envOf, slots, clears}
+use Rattle.ground.proofs.Walk.{while-lt, breaks, envOf, slots, clears}
 use Rattle.node.proofs.accepted.record_accepted as g
 use Rattle.node.proofs.accepted.record_accepted.Symbol as g-def
 use Rattle.node.proofs.accepted.record_accepted.Symbol.{name as #g}

@@ -47,7 +47,7 @@ use Rattle.link.specs.declared.Record.{Record}
 use Rattle.node.specs.Accepted.{nowhere, recordAt, hasPair}
 use Rattle.node.proofs.Rows.{R, val, vals, typed, place-of, byte-fits, looks-rows, row-out}
 use Rattle.node.proofs.Searches.{Outer, Inner, outer-none, inner-start, inner-here, inner-later, inner-none}
-use Rattle.node.proofs.Walk.{guards, while-lt, envOf, slots, clears}
+use Rattle.ground.proofs.Walk.{guards, while-lt, envOf, slots, clears}
 use Rattle.node.proofs.accepted.has_pair.Key.{name as #f}
 use Rattle.node.proofs.accepted.has_pair as f
 use Rattle.node.proofs.accepted.has_pair.Statement as stated

@@ -11,7 +11,7 @@ use denote.Builtin.{u32, usize}
 use denote.Slice.{ShrSlice, shr-slice-copy}
 use Rattle.node.specs.Accepted.{boundsAccepted, allAccepted, hasPair}
 use Rattle.node.proofs.Rows.{R}
-use Rattle.node.proofs.Frame.{gives-within}
+use Rattle.ground.proofs.Frame.{gives-within}
 use Rattle.node.proofs.Shared.{own-fits}
 use Rattle.node.proofs.Searches.{refused-bounds, refused-record, by-pairs}
 use Rattle.node.proofs.Walking.{_≡_, _∙_, refl, ap, length, List, [], _∷_, URA, w32, w64, SProp, emp, id⊢, Memory, Routine, Heap, Calls, Loops, Atoms, Fun, factI, givenOf, tables, tablesOf, FmC, fmOf, Given, ‵, use0, use1, _$_, !, by, move, drop, fsplit, fjoin, now, owns, typesAt, lasts, cited, Triple, look-in, sub, and-then, no-more, of-opd, load, from, fld, stop, only, nothing}

@@ -52,7 +52,7 @@ use Rattle.node.proofs.Route as U
 use Rattle.node.proofs.Route.Laws as U′
 use Rattle.node.proofs.Rows.{R, vals, typed, place-of, byte-fits, looks-rows, row-out}
 use Rattle.node.proofs.Searches.{Passed, found-here, found-none, found-later}
-use Rattle.node.proofs.Walk.{while-lt, breaks, envOf, slots, clears}
+use Rattle.ground.proofs.Walk.{while-lt, breaks, envOf, slots, clears}
 use Rattle.node.proofs.matching.first_match.Key.{name as #f}
 use Rattle.node.proofs.matching.first_match as f
 use Rattle.node.proofs.matching.first_match.Statement as stated

@@ -1,7 +1,7 @@
 -- `node::outcomes::settle` meets its contract.
 -- Assumes nothing.
 use borrow.Author.Needs.{needs}
-use Rattle.telegram.specs.Choice.{tests}
+use Rattle.ground.specs.Choice.{tests}
 use Rattle.node.specs.Heads.{at}
 use Rattle.node.specs.Calls.{settled}
 use Rattle.node.proofs.outcomes.settle.Statement.{statement}
@@ -12,11 +12,11 @@ refused-requires c κs = search needs
 
 returns : tie.Need-returns
 unfolding settled
-returns c = rw (c .refused .ensures) (search (tests, needs) depth 16)
+returns c = rw (c .refused .ensures) (search tests depth 16)
 
 returns-2 : tie.Need-returns-2
 unfolding settled at
-returns-2 c = search (tests, needs) depth 16
+returns-2 c = search tests depth 16
 
 pub settle-spec : {M : Type 1} → statement M
 settle-spec = tie.close (tie.spec refused-requires returns returns-2)

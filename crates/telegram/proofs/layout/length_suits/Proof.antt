@@ -2,7 +2,7 @@
 -- Assumes nothing.
 use native.Mathlib.Omega.{arith}
 use borrow.Author.Needs.{needs}
-use Rattle.telegram.specs.Choice.{tests}
+use Rattle.ground.specs.Choice.{tests}
 use Rattle.telegram.proofs.Widths.{word-small}
 use Rattle.telegram.proofs.Cases.{header-small, most-small}
 use Rattle.telegram.proofs.layout.length_suits.Statement.{statement}
@@ -21,7 +21,7 @@ add-if1 : tie.Need-add-if1
 add-if1 c = omega (arith, word-small (c .before .before .before .args .level), header-small (c .before .before .before .args .kind))
 
 returns : tie.Need-returns
-returns c = rw (← c .before .most-net .ensures, ← c .before .before .header-length .ensures, ← c .before .before .before .word-length .ensures) (search (tests, needs) depth 16)
+returns c = rw (← c .before .most-net .ensures, ← c .before .before .header-length .ensures, ← c .before .before .before .word-length .ensures) (search tests depth 16)
 
 add-result : tie.Need-add-result
 add-result c = omega (arith, most-small (c .before .before .before .before .args .kind) (c .before .before .before .before .args .level))
@@ -30,7 +30,7 @@ add-result-2 : tie.Need-add-result-2
 add-result-2 c = omega (arith, most-small (c .before .before .before .before .args .kind) (c .before .before .before .before .args .level))
 
 returns-2 : tie.Need-returns-2
-returns-2 c = rw (← c .before .most-net .ensures, ← c .before .before .header-length .ensures, ← c .before .before .before .word-length .ensures) (search (tests, needs) depth 16)
+returns-2 c = rw (← c .before .most-net .ensures, ← c .before .before .header-length .ensures, ← c .before .before .before .word-length .ensures) (search tests depth 16)
 
 pub length-suits-spec : {M : Type 1} → statement M
 length-suits-spec =

@@ -4,7 +4,7 @@ use mathlib.Core.Path.{sym, _∙_}
 use native.Mathlib.Omega.{arith}
 use borrow.Author.Tests.{not-false}
 use borrow.Author.Needs.{needs}
-use Rattle.telegram.specs.Choice.{tests}
+use Rattle.ground.specs.Choice.{tests}
 use Rattle.telegram.proofs.Refusals.{telegram-room}
 use Rattle.telegram.proofs.Cases.{header-small}
 use Rattle.telegram.proofs.parts.part_of.Statement.{statement}
@@ -14,7 +14,7 @@ is-telegram-requires : tie.Need-is-telegram-requires
 is-telegram-requires c κs = search needs
 
 returns : tie.Need-returns
-returns c = rw (← c .before .is-telegram .ensures) (search (tests, needs) depth 16)
+returns c = rw (← c .before .is-telegram .ensures) (search tests depth 16)
 
 header-length-requires : tie.Need-header-length-requires
 header-length-requires c κs = search needs
@@ -35,7 +35,7 @@ cast-t11 : tie.Need-cast-t11
 cast-t11 c = omega (arith, telegram-room (c .before .before .before .before .args .kind) (c .before .before .before .before .args .level) (c .before .before .before .before .args .length) (sym (c .before .before .before .is-telegram .ensures) ∙ not-false (c .before .before .before .is-telegram .result) (c .before .before .if1 .left)))
 
 returns-2 : tie.Need-returns-2
-returns-2 c = rw (← c .before .before .before .is-telegram .ensures, ← c .before .header-length .ensures, ← c .word-length .ensures) (search (tests, needs) depth 16)
+returns-2 c = rw (← c .before .before .before .is-telegram .ensures, ← c .before .header-length .ensures, ← c .word-length .ensures) (search tests depth 16)
 
 pub part-of-spec : {M : Type 1} → statement M
 part-of-spec =

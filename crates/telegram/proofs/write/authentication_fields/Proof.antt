@@ -4,7 +4,7 @@ use mathlib.Core.Path.{ap}
 use mathlib.Core.List.{List}
 use Prim.Native.Nat.{ℕ}
 use borrow.Author.Needs.{needs}
-use Rattle.telegram.specs.Numbers.{lowestFirst}
+use Rattle.ground.specs.Numbers.{lowestFirst}
 use Rattle.telegram.proofs.write.authentication_fields.Statement.{statement}
 use Rattle.telegram.proofs.write.authentication_fields.Tie as tie
 

@@ -1,10 +1,10 @@
--- `telegram::numbers::byte` meets its contract.
+-- `ground::numbers::byte` meets its contract.
 -- Assumes nothing.
 use mathlib.Core.Path.{sym}
 use lib.ListN.{List·getD-eq-default}
 use borrow.Author.Needs.{needs}
-use Rattle.telegram.proofs.numbers.byte.Statement.{statement}
-use Rattle.telegram.proofs.numbers.byte.Tie as tie
+use Rattle.ground.proofs.numbers.byte.Statement.{statement}
+use Rattle.ground.proofs.numbers.byte.Tie as tie
 
 shared-slice-read-result : tie.Need-shared-slice-read-result
 shared-slice-read-result c = search needs

@@ -1,0 +1,4 @@
+pub mod Frame
+pub mod Meeting
+pub mod Past
+pub mod Walk
