@@ -3,7 +3,7 @@
 use crate::made::in_phase;
 use crate::made::telegram_for;
 use crate::run::takes;
-use crate::show::number;
+use shown::number;
 
 fn cell(level: u32, phase: u32, kind: u32) {
     let mut telegram = [0u8; 244];

@@ -2,53 +2,35 @@
 // limits of waits and watch, the rules that are easy to miss, the refusals, and the cells of the table of 5.5.1.5. A line is a step: its answer, the
 // telegram written and its length, the event, what the record is afterwards, and the bytes of a short telegram. The file `stdout` beside src/ holds what
 // the papers ask for: a run that writes anything else fails. The check words in it are the library's own, but for the two that 5.3.1.7 prints.
-// Then the calls over a table: an on-board computer and two modules, the cards exchanged, the places exchanged, and each refusal.
-mod cards;
+// The calls over a table are run by the program tables.
 mod cells;
 mod limits;
 mod made;
 mod named;
-mod owned;
 mod refusals;
 mod rules;
 mod run;
 mod show;
-mod station;
-mod table_refusals;
 mod talk;
 
-use link::Record;
-use node::Outcome;
-
-// What a call over a table of two records left: the records, and the outcome.
-pub struct Left {
-    pub first: Record,
-    pub second: Record,
-    pub outcome: Outcome,
-}
-
 fn at_level(level: u32) {
-    show::heading(b"Set-up and talk, random numbers of 5.3.1.6, level ", level);
+    shown::heading(b"Set-up and talk, random numbers of 5.3.1.6, level ", level);
     talk::conversation(level, 0x0123_4567, 0x89AB_CDEF);
-    show::heading(
+    shown::heading(
         b"Set-up and talk, both random numbers FFFFFFFFh, level ",
         level,
     );
     talk::conversation(level, 0xFFFF_FFFF, 0xFFFF_FFFF);
-    show::heading(b"Idle times named and not, level ", level);
+    shown::heading(b"Idle times named and not, level ", level);
     named::idle_times(level);
-    show::heading(b"Limits of waits and watch, level ", level);
+    shown::heading(b"Limits of waits and watch, level ", level);
     limits::limits(level);
-    show::heading(b"Rules that are easy to miss, level ", level);
+    shown::heading(b"Rules that are easy to miss, level ", level);
     rules::rules(level);
-    show::heading(b"Refusals, level ", level);
+    shown::heading(b"Refusals, level ", level);
     refusals::refusals(level);
-    show::heading(b"Cells of 5.5.1.5, level ", level);
+    shown::heading(b"Cells of 5.5.1.5, level ", level);
     cells::cells(level);
-    show::heading(b"A computer and two modules, level ", level);
-    cards::cards(level);
-    show::heading(b"Refusals of the calls, level ", level);
-    table_refusals::refusals(level);
 }
 
 fn main() {

@@ -68,15 +68,15 @@ fn lengths(level: u32) {
 pub(crate) fn refusals(level: u32) {
     let mut out = [0u8; 244];
     let mut short = [0u8; 243];
-    crate::show::words(b"zeroed record\n");
+    shown::words(b"zeroed record\n");
     every_call(level, zeroed(), &mut out);
-    crate::show::words(b"open record, buffer of 243\n");
+    shown::words(b"open record, buffer of 243\n");
     every_call(level, in_phase(level, link::OPEN), &mut short);
-    crate::show::words(b"finally closed record\n");
+    shown::words(b"finally closed record\n");
     every_call(level, in_phase(level, link::FINALLY_CLOSED), &mut out);
-    crate::show::words(b"open record\n");
+    shown::words(b"open record\n");
     every_call(level, in_phase(level, link::OPEN), &mut out);
-    crate::show::words(b"closed record\n");
+    shown::words(b"closed record\n");
     every_call(level, in_phase(level, link::CLOSED), &mut out);
     lengths(level);
 }

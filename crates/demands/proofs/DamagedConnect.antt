@@ -34,7 +34,7 @@ use Rattle.telegram.proofs.Refusals.{both-true, suits-room}
 use Rattle.telegram.proofs.Taken.{level-there}
 use Rattle.telegram.proofs.Apart.{Passed, passed}
 use Rattle.demands.specs.Damage.{Changed, Connect}
-use Rattle.demands.proofs.Echo.{echoed, Change, byte-lt, echo-seen-4, echo-seen-2}
+use Rattle.echo.proofs.Echo.{echoed, Change, byte-lt, echo-seen-4, echo-seen-2}
 use Rattle.demands.proofs.Damage.{message, leaves-nothing, seen}
 
 -- Lists of bytes, and their exclusive-or place by place

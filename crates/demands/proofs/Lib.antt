@@ -6,11 +6,9 @@ pub mod Demand1
 pub mod Demand2
 pub mod Demand3
 pub mod Demands
-pub mod Echo
 pub mod EveryStep
 pub mod OneEnd
 pub mod Law
-pub mod Linear
 pub mod SetUp
 pub mod Steps
 pub mod Unique

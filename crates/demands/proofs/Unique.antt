@@ -1,7 +1,7 @@
 -- Two results that meet a promise are equal: a promise says what each part equals, and two things that equal a third are equal.
 -- Assumes nothing.
 use mathlib.Core.Path.{_≡_, sym, _∙_}
-use Rattle.demands.specs.Unique.{Rows48, Rows32, Checkword, Telegram, Link, Firmware, Node, Clock, Uniqueness}
+use Rattle.demands.specs.Unique.{Ground, Rows48, Rows32, Checkword, Telegram, Link, Link-c, Firmware, Node, Node-c, Clock, Uniqueness}
 
 -- A promise that is one equation, two, three.
 unique : {A : Type 0} {x : A} (r s : A) → r ≡ x → s ≡ x → r ≡ s
@@ -13,6 +13,9 @@ unique₂ r s a b p q = (unique r s (p .0) (q .0), unique a b (p .1) (q .1))
 unique₃ : {A B C : Type 0} {x : A} {y : B} {z : C} (r s : A) (t u : B) (a b : C)
     → (r ≡ x) × ((t ≡ y) × (a ≡ z)) → (s ≡ x) × ((u ≡ y) × (b ≡ z)) → (r ≡ s) × ((t ≡ u) × (a ≡ b))
 unique₃ r s t u a b p q = (unique r s (p .0) (q .0), unique₂ t u a b (p .1) (q .1))
+
+ground : Ground
+ground = record { byte = λ t at. unique; «number_at1» = λ t at. unique; «number_at2» = λ t at. unique; «number_at4» = λ t at. unique }
 
 rows48 : Rows48
 rows48 = record { low = λ v. unique; high = λ y v. unique }
@@ -71,6 +74,11 @@ link =
       tick = λ «record» own time out. unique₂;
       «idle_time_by» = λ named time. unique;
       «happened_as» = λ event. unique;
+    }
+
+link-c : Link-c
+link-c =
+    record {
       «uj_link_open» = λ «record» own time random named «idle_time» net out. unique₂;
       «uj_link_close» = λ «record» own «new_setup» reason text out. unique₂;
       «uj_link_send» = λ «record» own time command net out. unique₂;
@@ -100,12 +108,19 @@ node =
       «new_head» = λ own. unique;
       «table_accepted» = λ table head. unique;
       «first_match» = λ table route. unique;
+      «route_by» = λ sender «destination_sap» «source_sap». unique;
       «open» = λ table head time place random idle net out. unique₃;
       close = λ table head time place «new_setup» reason text out. unique₃;
       send = λ table head time place command net out. unique₃;
       received = λ table head time route random idle telegram net out. unique₃;
       tick = λ table head time place out. unique₃;
       «net_data» = λ telegram event. unique;
+      «plain_outcome» = λ outcome. unique;
+    }
+
+node-c : Node-c
+node-c =
+    record {
       «uj_new_head» = λ own. unique;
       «uj_fresh» = λ partner «partner_sap» «local_sap» level. unique;
       «uj_open» = λ table head time place random named «idle_time» net out. unique₃;
@@ -131,4 +146,4 @@ clock =
     }
 
 pub uniqueness : Uniqueness
-uniqueness = record { rows48 = rows48; rows32 = rows32; checkword = checkword; telegram = telegram; link = link; firmware = firmware; node = node; clock = clock }
+uniqueness = record { ground = ground; rows48 = rows48; rows32 = rows32; checkword = checkword; telegram = telegram; link = link; link-c = link-c; firmware = firmware; node = node; node-c = node-c; clock = clock }

@@ -1,5 +1,5 @@
 -- Damage on the cable: a telegram that passes the check of a record, changed on its way within as many neighbouring bytes as its check word has, passes it no
--- more; and what the record does with it. DamageExamples.antt has worked examples, and DamageLimits.antt what isn't so.
+-- more; and what the record does with it. crates/worked/specs has worked examples, in Damage.antt, and what isn't so, in DamageLimits.antt.
 -- Assumes nothing.
 use mathlib.Core.Path.{_≡_}
 use mathlib.Core.Bool.{false}

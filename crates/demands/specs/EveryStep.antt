@@ -1,38 +1,20 @@
 -- Demand 2, over every step: whatever is sent, one telegram after the other in either direction, each received in time and before the next is sent, and
 -- whatever the two nodes do for other connections meanwhile, the other end hands up exactly that, in order, and the two stay connected.
 -- Assumes nothing.
-use mathlib.Core.Path.{_≡_, refl}
+use mathlib.Core.Path.{_≡_}
 use mathlib.Core.List.{List, [], _∷_, _++_}
-use Prim.Native.Nat.{ℕ, _≤_}
-use native.Mathlib.Omega.{arith}
-use lib.Dec.{eqb, lit<, lit≤}
+use Prim.Native.Nat.{ℕ}
+use lib.Dec.{eqb}
 use Rattle.checkword.specs.Bytes.{Bytes}
-use Rattle.checkword.specs.Generators.{generator48, generator32}
-use Rattle.checkword.specs.Word.{shift, feed}
 use Rattle.ground.specs.Choice.{pick}
-use Rattle.telegram.specs.Levels.{levelOf, topBits, width, wordLength, generator}
-use Rattle.telegram.specs.Commands.{kindOf, isData}
-use Rattle.telegram.specs.Values.{goodIdle}
-use Rattle.telegram.specs.Ends.{inRange, implicit}
-use Rattle.telegram.specs.Telegrams as telegrams
-use Rattle.telegram.specs.Telegrams.{dataTelegram, sealed, body, checkWord}
-use Rattle.telegram.specs.Writers.{refusal, dataAllowed, writesData, writesIdle, connectAllowed}
-use Rattle.telegram.specs.Check.{checkOf, wordAgrees}
-use Rattle.link.specs.Records.{recordInRange, endOf, isPhase, isClosed, become}
-use Rattle.link.specs.Times.{watchOver, idleDue}
-use Rattle.link.specs.Judged.{ticked, runOut, judged, passed, expectedNow}
-use Rattle.link.specs.Steps as steps
-use Rattle.link.specs.Steps.{firstRefusal, writingStep, sendRefusal, sendOf, sendOut, tickRefusal, tickOf, tickOut, receivedRefusal, receivedOf, declaredBy, quietly, taken}
 use Rattle.link.specs.Plain.{happened}
 use Rattle.link.specs.declared.Event.{Event}
-use Rattle.node.specs.Heads.{at}
-use Rattle.node.specs.Accepted.{recordAt, accepted, boundsAccepted, recordAccepted}
-use Rattle.node.specs.Calls.{Call, placeOf, called, asked, refusedOutcome, settled}
+use Rattle.node.specs.Accepted.{recordAt}
+use Rattle.node.specs.Calls.{Call, placeOf}
 use Rattle.node.specs.Calls.Call.{Send, Tick}
 use Rattle.node.specs.Plain.{dataOf}
 use Rattle.demands.specs.Pairs.{telegramOf, Done, Nodes, turned, Connected, Moment, sent, got, after, In-time, Arrives}
 use Rattle.demands.specs.Demand2.{Due}
-use Rattle.demands.specs.Examples.{exampleNodes, exampleMoment}
 
 -- From the first node to the second, or back.
 pub data Way : Type 0 where
@@ -117,51 +99,3 @@ Stay-connected n i j (x ∷ xs) = Connected n i j × Stay-connected (then-on n i
 abbrev pub Demand-2-over-every-step : Type 0
 Demand-2-over-every-step =
     (n : Nodes) (i j : ℕ) (xs : List Exchange) → Connected n i j → All-go-well n i j xs → (handed-up n i j xs ≡ messages xs) × Stay-connected n i j xs
-
--- Worked example: nodes 8 and 9 as in Demand2's, which are connected. Node 8 sends data 09h with the net bytes 1 and 2 at time 1100, and ticks at 1200, where
--- nothing is due; node 9 sends data 20h with the net byte 3 at 1250; node 8 is refused a sending for a place that its table has not at 1350, and ticks again at
--- 1400, 300 after it last sent. Each telegram is received 50 later.
-abbrev pub exampleExchanges : List Exchange
-exampleExchanges =
-    message there 0x09 (1 ∷ 2 ∷ []) (exampleMoment 1100)
-    ∷ meanwhile there (Tick 0) (exampleMoment 1200)
-    ∷ message back 0x20 (3 ∷ []) (exampleMoment 1250)
-    ∷ meanwhile there (Send 1 0x09 []) (exampleMoment 1350)
-    ∷ idle there (exampleMoment 1400)
-    ∷ []
-
--- All go well, at level 4 and at level 2 ..
-pub example-goes-well : All-go-well (exampleNodes 4) 0 0 exampleExchanges × All-go-well (exampleNodes 2) 0 0 exampleExchanges
-unfolding called asked settled refusedOutcome accepted boundsAccepted recordAccepted recordInRange endOf inRange isPhase isClosed goodIdle firstRefusal writingStep refusal sendRefusal sendOf sendOut dataAllowed writesData dataTelegram steps.sent become tickRefusal tickOf tickOut ticked runOut watchOver idleDue writesIdle telegrams.idle receivedRefusal receivedOf declaredBy connectAllowed judged passed expectedNow checkOf wordAgrees levelOf quietly taken sealed body checkWord implicit topBits width wordLength generator generator48 generator32 shift feed kindOf isData at pick
-example-goes-well = (
-  (
-    ((lit< tt, (lit< tt, tt)), record { done = refl; taken = refl; in-time = λ some. lit≤ tt }),
-    (
-      early refl (λ some. lit≤ tt) (λ due. let h : 2700 ≤ 2400 = due .half in omega arith),
-      (
-        ((lit< tt, tt), record { done = refl; taken = refl; in-time = λ some. lit≤ tt }),
-        (
-          refused (λ done. let n : _≡_ {A = ℕ} 2 0 = done in omega arith),
-          ((record { declares = λ none. omega arith; half = lit≤ tt; in-time = λ some. lit≤ tt }, record { done = refl; taken = refl; in-time = λ some. lit≤ tt }), tt),
-        ),
-      ),
-    ),
-  ),
-  (
-    ((lit< tt, (lit< tt, tt)), record { done = refl; taken = refl; in-time = λ some. lit≤ tt }),
-    (
-      early refl (λ some. lit≤ tt) (λ due. let h : 2700 ≤ 2400 = due .half in omega arith),
-      (
-        ((lit< tt, tt), record { done = refl; taken = refl; in-time = λ some. lit≤ tt }),
-        (
-          refused (λ done. let n : _≡_ {A = ℕ} 2 0 = done in omega arith),
-          ((record { declares = λ none. omega arith; half = lit≤ tt; in-time = λ some. lit≤ tt }, record { done = refl; taken = refl; in-time = λ some. lit≤ tt }), tt),
-        ),
-      ),
-    ),
-  ),
-)
-
--- .. and what is handed up is then this.
-pub example-messages : messages exampleExchanges ≡ (there, (0x09, 1 ∷ 2 ∷ [])) ∷ (back, (0x20, 3 ∷ [])) ∷ []
-example-messages = refl

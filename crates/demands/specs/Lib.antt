@@ -1,13 +1,10 @@
 pub mod Pairs
 pub mod Damage
-pub mod DamageExamples
-pub mod DamageLimits
 pub mod Demand1
 pub mod Demand2
 pub mod Demand3
 pub mod Demands
 pub mod EveryStep
-pub mod Examples
 pub mod OneEnd
 pub mod Law
 pub mod SetUp

@@ -1,30 +1,20 @@
 -- Demand 2, at one end, whatever its partner does: what closes a connection and with which reason, what alone opens one, and
 -- what alone hands up data.
 -- Assumes nothing.
-use mathlib.Core.Path.{_≡_, refl}
+use mathlib.Core.Path.{_≡_}
 use mathlib.Core.Bool.{true, false}
-use mathlib.Core.List.{List, [], _∷_}
+use mathlib.Core.List.{List}
 use mathlib.Core.Logic.{_⊎_}
 use Prim.Native.Nat.{ℕ, _+_, _≤_, _<_}
-use lib.ListN.{replicate}
-use Rattle.checkword.specs.Generators.{generator48, generator32}
-use Rattle.checkword.specs.Word.{shift, feed}
-use Rattle.ground.specs.Choice.{pick}
-use Rattle.telegram.specs.Levels.{levelOf, topBits, width, wordLength, generator}
 use Rattle.telegram.specs.Fields.{authenticationOf}
-use Rattle.telegram.specs.Commands.{kindOfCommand, kindOf, isData}
-use Rattle.telegram.specs.Values.{goodIdle, goodType, listedReason, goodDualBus}
-use Rattle.telegram.specs.Ends.{inRange, implicit}
-use Rattle.telegram.specs.Telegrams.{authenticationNumber, request, disconnect, sealed, body, checkWord}
-use Rattle.telegram.specs.Writers.{refusal, connectAllowed, writesRequest, disconnectAllowed, writesDisconnect}
-use Rattle.telegram.specs.Check.{commandOf, checkOf, wordAgrees}
+use Rattle.telegram.specs.Commands.{kindOfCommand}
+use Rattle.telegram.specs.Telegrams.{authenticationNumber}
+use Rattle.telegram.specs.Check.{commandOf, checkOf}
 use Rattle.telegram.specs.declared.Kind.{Kind}
 use Rattle.telegram.specs.declared.Kind.the-variants.{Request, Confirm, Authentication, Acknowledgement, Data}
 use Rattle.telegram.specs.declared.Check.the-variants.{Passes}
-use Rattle.link.specs.Records.{endOf, recordInRange, isPhase, isClosed, atRest, freshOf, become, closedBy}
-use Rattle.link.specs.Times.{watchOver, waitOver}
-use Rattle.link.specs.Judged.{back, judged, passed, expectedNow, runOut, runOutVerdict, ticked}
-use Rattle.link.specs.Steps.{firstRefusal, writingStep, declaredBy, openRefusal, openOf, openOut, receivedRefusal, receivedOf, receivedOut, tickRefusal, tickOf, tickOut}
+use Rattle.link.specs.Records.{endOf}
+use Rattle.link.specs.Judged.{back}
 use Rattle.link.specs.Plain.{happened}
 use Rattle.link.specs.declared.Record.{Record}
 use Rattle.link.specs.declared.IdleTime.{IdleTime}
@@ -32,12 +22,11 @@ use Rattle.link.specs.declared.Event.the-variants.{Opened}
 use Rattle.node.specs.declared.Head.{Head}
 use Rattle.node.specs.declared.Route.{Route}
 use Rattle.node.specs.Matching.{firstMatch}
-use Rattle.node.specs.Accepted.{recordAt, accepted, boundsAccepted, recordAccepted}
-use Rattle.node.specs.Calls.{Call, Left, called, asked, settled}
+use Rattle.node.specs.Accepted.{recordAt}
+use Rattle.node.specs.Calls.{Call, called}
 use Rattle.node.specs.Calls.Call.{Open, Close, Send, Received, Tick}
-use Rattle.demands.specs.Pairs.{telegramOf, Done, In-time}
+use Rattle.demands.specs.Pairs.{Done, In-time}
 use Rattle.demands.specs.Demand2.{Is-closed}
-use Rattle.demands.specs.Examples.{exampleOpen, exampleReceipt}
 
 -- A call that looks at the timers of the record at place i: a tick of it, or any telegram for it.
 pub data Looks-at (c : Call) (t : List Record) (i : ℕ) : Type 0 where
@@ -133,37 +122,3 @@ pub record Demand-2-one-end : Type 0 where
   pub set-up-closes-here : Set-up-closes-here
   pub opens-only-by-an-answer : Opens-only-by-an-answer
   pub data-only-from-a-good-telegram : Data-only-from-a-good-telegram
-
--- Worked example: node 8, with one connection at level 4, to node 9, makes a call at this time.
-abbrev pub exampleCalled : Call → Record → ℕ → Left
-exampleCalled c r time = called c (record { own = 8; latest = 1000 }) (r ∷ []) time (replicate 244 0)
-
--- Its record where it awaits an answer in this phase, to what it sent at time 1000.
-abbrev pub exampleWaiting : ℕ → Record
-exampleWaiting phase = become (freshOf 9 3 3 4) phase 0x01234569 0 500 0 1000 0
-
--- The request of a node 9 that was restarted and asks anew.
-abbrev pub exampleRequest : List ℕ
-exampleRequest =
-    telegramOf (called (Open 0 0x89ABCDEF (record { named = false; time = 0 }) []) (record { own = 9; latest = 0 }) (freshOf 8 3 3 4 ∷ []) 1300 (replicate 244 0))
-
--- At 1501, one after the watch, a tick and any telegram close with 05h; at 6001, one after the wait, a tick closes; and at 1350 the request closes with 04h.
-pub record Examples : Type 0 where
-  pub silence-on-tick : Is-closed (exampleCalled (Tick 0) exampleOpen 1501) 0 0x05 false
-  pub silence-on-receipt : Is-closed (exampleCalled (exampleReceipt 9 (replicate 10 0)) exampleOpen 1501) 0 0x05 false
-  pub no-confirm : Is-closed (exampleCalled (Tick 0) (exampleWaiting 2) 6001) 0 0x02 false
-  pub no-authentication : Is-closed (exampleCalled (Tick 0) (exampleWaiting 3) 6001) 0 0x03 true
-  pub no-acknowledgement : Is-closed (exampleCalled (Tick 0) (exampleWaiting 4) 6001) 0 0x03 true
-  pub set-up-anew : Is-closed (exampleCalled (exampleReceipt 9 exampleRequest) exampleOpen 1350) 0 0x04 false
-
-pub examples : Examples
-unfolding called asked settled accepted boundsAccepted recordAccepted recordInRange endOf inRange isPhase isClosed goodIdle atRest freshOf become closedBy firstRefusal writingStep refusal openRefusal openOf openOut connectAllowed writesRequest request tickRefusal tickOf tickOut ticked runOut runOutVerdict watchOver waitOver receivedRefusal receivedOf receivedOut declaredBy judged passed expectedNow checkOf wordAgrees levelOf disconnectAllowed goodType listedReason goodDualBus writesDisconnect disconnect sealed body checkWord implicit topBits width wordLength generator generator48 generator32 shift feed kindOf isData pick
-examples =
-    record {
-      silence-on-tick = record { says = refl; phase = refl };
-      silence-on-receipt = record { says = refl; phase = refl };
-      no-confirm = record { says = refl; phase = refl };
-      no-authentication = record { says = refl; phase = refl };
-      no-acknowledgement = record { says = refl; phase = refl };
-      set-up-anew = record { says = refl; phase = refl };
-    }

@@ -8,9 +8,11 @@ use mathlib.Core.Bool.{Bool}
 use mathlib.Core.List.{List, _++_}
 use Prim.Native.Nat.{ℕ}
 use lib.Bits.{bitXor}
+use lib.ListN.{getD}
 use Rattle.digits.specs.Digits.{picked}
 use Rattle.rows48.specs.Rows as rows48
 use Rattle.rows32.specs.Rows as rows32
+use Rattle.ground.specs.Numbers.{numberAt}
 use Rattle.checkword.specs.Generators.{generator48, generator32}
 use Rattle.checkword.specs.Word.{word}
 use Rattle.telegram.specs.Commands.{kindOfCommand}
@@ -76,6 +78,14 @@ Unique₂ {A} {B} P = (r s : A) (a b : B) → P r a → P s b → (r ≡ s) × (
 -- The same of a result, a table and a buffer that were lent.
 abbrev pub Unique₃ : {A B C : Type 0} → (A → B → C → Type 0) → Type 0
 Unique₃ {A} {B} {C} P = (r s : A) (t u : B) (a b : C) → P r t a → P s u b → (r ≡ s) × ((t ≡ u) × (a ≡ b))
+
+-- The public functions of `ground`.
+pub record Ground : Type 0 where
+  -- src/numbers.rt: a byte, and numbers of one, two and four bytes
+  pub byte : (t : List ℕ) (at : ℕ) → Unique (λ (x : ℕ). x ≡ getD t at 0)
+  pub «number_at1» : (t : List ℕ) (at : ℕ) → Unique (λ (x : ℕ). x ≡ numberAt 1 at t)
+  pub «number_at2» : (t : List ℕ) (at : ℕ) → Unique (λ (x : ℕ). x ≡ numberAt 2 at t)
+  pub «number_at4» : (t : List ℕ) (at : ℕ) → Unique (λ (x : ℕ). x ≡ numberAt 4 at t)
 
 -- The public functions of `rows48` and `rows32`, which only `checkword` calls.
 pub record Rows48 : Type 0 where
@@ -178,9 +188,13 @@ pub record Link : Type 0 where
       → Unique₂ (λ (s : Step) (out′ : List ℕ).
       (s ≡ tickOf «record» own time out)
       × (out′ ≡ tickOut «record» own time out))
-  -- src/exported.rt: the same for C
+  -- src/plain.rt: what C says and is told in plain numbers
   pub «idle_time_by» : (named time : ℕ) → Unique (λ (i : IdleTime). i ≡ idleTimeBy named time)
   pub «happened_as» : (event : Event) → Unique (λ (h : Happened). h ≡ happened event)
+
+-- The public functions of `link_c`.
+pub record Link-c : Type 0 where
+  -- src/lib.rt: the five steps for C
   pub «uj_link_open» : («record» : Record) (own time random named «idle_time» : ℕ) (net out : List ℕ)
       → Unique₂ (λ (s : Stepped) (out′ : List ℕ).
       (s ≡ link.plain (openOf «record» own time random (idleTimeBy named «idle_time») net out))
@@ -245,8 +259,9 @@ pub record Node : Type 0 where
   pub «new_head» : (own : ℕ) → Unique (λ (h : Head). h ≡ newHead own)
   -- src/accepted.rt: which tables are accepted
   pub «table_accepted» : (table : List Record) (head : Head) → Unique (λ (b : Bool). b ≡ accepted head table)
-  -- src/matching.rt: which record a telegram is for
+  -- src/matching.rt: which record a telegram is for, and what it was sent under
   pub «first_match» : (table : List Record) (route : Route) → Unique (λ (n : ℕ). n ≡ firstMatch route table)
+  pub «route_by» : (sender «destination_sap» «source_sap» : ℕ) → Unique (λ (w : Route). w ≡ routeBy sender «destination_sap» «source_sap»)
   -- src/calls.rt: the five calls
   pub «open» : (table : List Record) (head : Head) (time place random : ℕ) (idle : IdleTime) (net out : List ℕ)
       → Unique₃ (λ (o : Outcome) (table′ : List Record) (out′ : List ℕ).
@@ -273,9 +288,13 @@ pub record Node : Type 0 where
       (o ≡ called (Tick place) head table time out .outcome)
       × ((table′ ≡ called (Tick place) head table time out .table)
       × (out′ ≡ called (Tick place) head table time out .out)))
-  -- src/outcomes.rt: the net data of an event
+  -- src/outcomes.rt: the net data of an event, and an outcome as plain numbers
   pub «net_data» : (telegram : List ℕ) (event : Event) → Unique (λ (r : List ℕ). r ≡ dataOf event telegram)
-  -- src/exported.rt: constructors and calls for C
+  pub «plain_outcome» : (outcome : Outcome) → Unique (λ (p : PlainOutcome). p ≡ node.plain outcome)
+
+-- The public functions of `node_c`.
+pub record Node-c : Type 0 where
+  -- src/lib.rt: constructors and calls for C
   pub «uj_new_head» : (own : ℕ) → Unique (λ (h : Head). h ≡ newHead own)
   pub «uj_fresh» : (partner «partner_sap» «local_sap» level : ℕ) → Unique (λ (r : Record). r ≡ freshOf partner «partner_sap» «local_sap» level)
   pub «uj_open» : (table : List Record) (head : Head) (time place random named «idle_time» : ℕ) (net out : List ℕ)
@@ -334,11 +353,14 @@ pub record Clock : Type 0 where
 
 -- Every public function of the library.
 pub record Uniqueness : Type 0 where
+  pub ground : Ground
   pub rows48 : Rows48
   pub rows32 : Rows32
   pub checkword : Checkword
   pub telegram : Telegram
   pub link : Link
+  pub link-c : Link-c
   pub firmware : Firmware
   pub node : Node
+  pub node-c : Node-c
   pub clock : Clock

@@ -1,25 +1,20 @@
 // One connection: a record by value and the five steps of the Safe Link Layer over it, at levels 4 and 2. No other record, no table.
 mod act;
-mod exported;
 mod judge;
 mod phases;
+mod plain;
 mod records;
 mod steps;
 mod times;
 
-pub use exported::happened_as;
-pub use exported::idle_time_by;
-pub use exported::uj_link_close;
-pub use exported::uj_link_open;
-pub use exported::uj_link_received;
-pub use exported::uj_link_send;
-pub use exported::uj_link_tick;
 pub use phases::ACKNOWLEDGEMENT_AWAITED;
 pub use phases::AUTHENTICATION_AWAITED;
 pub use phases::CLOSED;
 pub use phases::CONFIRM_AWAITED;
 pub use phases::FINALLY_CLOSED;
 pub use phases::OPEN;
+pub use plain::happened_as;
+pub use plain::idle_time_by;
 pub use records::fresh;
 pub use records::record_in_range;
 pub use steps::close;

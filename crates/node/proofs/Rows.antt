@@ -1,5 +1,6 @@
 -- What every walk over a slice of `Record`s cites, with the record's laws put in, so that a walk names none of them.
 --     R, vals, tells         the record's type, how a record's machine value is spelled, and that its relation tells it
+--     record-size            how many bytes a record takes
 --     place-of, byte-fits    where element i lies, and that its offset in bytes fits
 --     looks-rows             a `&[Record]` is looked into for a share of its row
 --     row-out                element i is taken out of a row, with its relation in hand
@@ -47,12 +48,16 @@ makes 𝓤 H A = LL.makes T.the-type T′.the-plain 𝓤 H A
 pub typed : {M : Type 1} (𝓤 : URA M) (H : Heap 𝓤) (A : Atoms 𝓤) (W : Given 𝓤 H A) (r : Record) → Is R r (vals r) → Holds (hasTy T′.mir (val r)) × WT (val r)
 typed 𝓤 H A W r g = LL.lawful T.the-type T′.the-laws 𝓤 H A W .typed r (vals r) g .0
 
--- where MIR's `offset` lands, and that the product fits
-pub place-of : (o i : ℕ) → i * 56 + o ≡ place (mem R .size) o i
-place-of o i = sym (place-is 56 o i)
+-- how many bytes a record takes
+abbrev pub record-size : ℕ
+record-size = 56
 
-pub byte-fits : (n i : ℕ) → Room R n → i < n → i * 56 < 2 ^ 64
-byte-fits n i room l = let h : n * 56 < 2 ^ 63 = room .1 in omega (arith, h, l)
+-- where MIR's `offset` lands, and that the product fits
+pub place-of : (o i : ℕ) → i * record-size + o ≡ place (mem R .size) o i
+place-of o i = sym (place-is record-size o i)
+
+pub byte-fits : (n i : ℕ) → Room R n → i < n → i * record-size < 2 ^ 64
+byte-fits n i room l = let h : n * record-size < 2 ^ 63 = room .1 in omega (arith, h, l)
 
 module _ {M : Type 1} {𝓤 : URA M} {H : Heap 𝓤} {A : Atoms 𝓤} {K : Type 0} {W : Given 𝓤 H A} {Γ : List (Item 𝓤)} {G : Goal 𝓤 H} where
   pub looks-rows : K → Soaks G → {κ : Lft} {q : Share} (ys : List Record) (b o : ℕ)

@@ -47,7 +47,7 @@ use Rattle.node.proofs.Head as HD
 use Rattle.node.proofs.Head.Laws as HD′
 use Rattle.node.proofs.Outcome as O
 use Rattle.node.proofs.Outcome.Laws as O′
-use Rattle.node.proofs.Rows.{R, val as valOf, vals as valsOf, makes, typed, place-of, byte-fits, row-out}
+use Rattle.node.proofs.Rows.{R, val as valOf, vals as valsOf, makes, typed, record-size, place-of, byte-fits, row-out}
 use Rattle.ground.proofs.Meeting.{obs-finally}
 use Rattle.ground.proofs.Frame.{Cell, some, none-away, frameOf, withAt, heldIn, In, local, typed-as, val, sets, gives, gives-within}
 use Rattle.node.proofs.Calling.{told, lands-struct, made-struct}
@@ -74,28 +74,28 @@ module _ {M : Type 1} {𝓤 : URA M} {H : Heap 𝓤} {A : Atoms 𝓤} {K : Type 
 
 -- element n of the table, local 1: its place in bytes is computed in local a, and its address in local p
 module _ {M : Type 1} {𝓤 : URA M} {H : Heap 𝓤} {A : Atoms 𝓤} {K : Type 0} {W : Given 𝓤 H A} {Γ : List (Item 𝓤)} {E : Env 𝓤 H} {vs : List Cell} {C : Calls 𝓤 H} {Λ : Loops 𝓤 H} {q : Post 𝓤 H} {rest : Body} {a p i : ℕ} where
-  pub points : K → {n b o m : ℕ} {ℓ : Lifetime} {μ : Mutability} {ρ : Ty} → heldIn E vs i ≡ some (vint w64 n) → n * 56 < 2 ^ 64 → In E vs a × In E (withAt vs a (vint w64 (n * 56))) p → spotOf 𝓤 H E a .0 ≡ tyInt w64 → spotOf 𝓤 H E p .0 ≡ tyPtr → spotOf 𝓤 H E 1 .0 ≡ sliceTy (tyRef ℓ μ ρ)
-      → heldIn E (withAt vs a (vint w64 (n * 56))) 1 ≡ some (sliceVal (b, o) m) → heldIn E (withAt vs a (vint w64 (n * 56))) a ≡ some (vint w64 (n * 56))
-      → Step K W (‵ (frameOf E (withAt (withAt vs a (vint w64 (n * 56))) p (vptr b (spot 56 o n)))) ∷ Γ) (runs C Λ E rest q)
-      (‵ (frameOf E vs) ∷ Γ) (runs C Λ E (seq (assign (place a []) (op2 (mul unsigned) (copy (place i [])) (int w64 56))) (seq (assign (place p []) (op2 offset (copy (place 1 (field 0 ∷ []))) (copy (place a [])))) rest)) q)
+  pub points : K → {n b o m : ℕ} {ℓ : Lifetime} {μ : Mutability} {ρ : Ty} → heldIn E vs i ≡ some (vint w64 n) → n * record-size < 2 ^ 64 → In E vs a × In E (withAt vs a (vint w64 (n * record-size))) p → spotOf 𝓤 H E a .0 ≡ tyInt w64 → spotOf 𝓤 H E p .0 ≡ tyPtr → spotOf 𝓤 H E 1 .0 ≡ sliceTy (tyRef ℓ μ ρ)
+      → heldIn E (withAt vs a (vint w64 (n * record-size))) 1 ≡ some (sliceVal (b, o) m) → heldIn E (withAt vs a (vint w64 (n * record-size))) a ≡ some (vint w64 (n * record-size))
+      → Step K W (‵ (frameOf E (withAt (withAt vs a (vint w64 (n * record-size))) p (vptr b (spot record-size o n)))) ∷ Γ) (runs C Λ E rest q)
+      (‵ (frameOf E vs) ∷ Γ) (runs C Λ E (seq (assign (place a []) (op2 (mul unsigned) (copy (place i [])) (int w64 record-size))) (seq (assign (place p []) (op2 offset (copy (place 1 (field 0 ∷ []))) (copy (place a [])))) rest)) q)
   points t {n} {b} {o} at-i fits ins ty-a ty-p ty-t at-t at-a = step (λ s.
-      sets t (bin t (val t 0 refl at-i) (lit t tt) (record { fits = fits })) (ins .0) (subst (λ (x : Ty). Holds (hasTy x (vint w64 (n * 56)))) (sym ty-a) tt, record { fits = fits }) $
-      sets t (bin t (load t (from t (fld t (ap (λ (x : Ty). fieldOf x 0) ty-t) (stop t))) (look-in t 0 (sub t 0 refl (typed-as t 1 ty-t at-t)))) (val t 0 refl at-a) tt) (ins .1) (subst (λ (x : Ty). Holds (hasTy x (vptr b (n * 56 + o)))) (sym ty-p) tt, tt) $
-      rewrite t 0 (λ (k : ℕ). ‵ (frameOf E (withAt (withAt vs a (vint w64 (n * 56))) p (vptr b k)))) (place-of o n) refl $ s)
+      sets t (bin t (val t 0 refl at-i) (lit t tt) (record { fits = fits })) (ins .0) (subst (λ (x : Ty). Holds (hasTy x (vint w64 (n * record-size)))) (sym ty-a) tt, record { fits = fits }) $
+      sets t (bin t (load t (from t (fld t (ap (λ (x : Ty). fieldOf x 0) ty-t) (stop t))) (look-in t 0 (sub t 0 refl (typed-as t 1 ty-t at-t)))) (val t 0 refl at-a) tt) (ins .1) (subst (λ (x : Ty). Holds (hasTy x (vptr b (n * record-size + o)))) (sym ty-p) tt, tt) $
+      rewrite t 0 (λ (k : ℕ). ‵ (frameOf E (withAt (withAt vs a (vint w64 (n * record-size))) p (vptr b k)))) (place-of o n) refl $ s)
 
 -- the locals once the address of element n is in local p
 abbrev pub pointed : List Cell → ℕ → ℕ → RefT (List Record) → ℕ → List Cell
-pointed vs a p x n = withAt (withAt vs a (vint w64 (n * 56))) p (vptr (x .ptr .0) (spot 56 (x .ptr .1) n))
+pointed vs a p x n = withAt (withAt vs a (vint w64 (n * record-size))) p (vptr (x .ptr .0) (spot record-size (x .ptr .1) n))
 
 -- `table[n]` is read into local d
 module _ {M : Type 1} {𝓤 : URA M} {H : Heap 𝓤} {A : Atoms 𝓤} {K : Type 0} {W : Given 𝓤 H A} {Γ : List (Item 𝓤)} {E : Env 𝓤 H} {vs : List Cell} {C : Calls 𝓤 H} {Λ : Loops 𝓤 H} {q : Post 𝓤 H} {rest : Body} {a p i d : ℕ} where
-  pub takes : K → (x : RefT (List Record)) (n : ℕ) → n < length (x .now) → Room R (length (x .now)) → {m : ℕ} {ℓ : Lifetime} {μ : Mutability} {ρ : Ty} → heldIn E vs i ≡ some (vint w64 n) → (In E vs a × In E (withAt vs a (vint w64 (n * 56))) p) × In E (pointed vs a p x n) d → spotOf 𝓤 H E a .0 ≡ tyInt w64 → spotOf 𝓤 H E p .0 ≡ tyPtr
-      → spotOf 𝓤 H E 1 .0 ≡ sliceTy (tyRef ℓ μ ρ) → spotOf 𝓤 H E d .0 ≡ T′.mir → heldIn E (withAt vs a (vint w64 (n * 56))) 1 ≡ some (sliceVal (x .ptr) m) → heldIn E (withAt vs a (vint w64 (n * 56))) a ≡ some (vint w64 (n * 56))
-      → heldIn E (withAt (withAt vs a (vint w64 (n * 56))) p (vptr (x .ptr .0) (spot 56 (x .ptr .1) n))) p ≡ some (vptr (x .ptr .0) (spot 56 (x .ptr .1) n))
-      → (Is R (recordAt (x .now) n) (valsOf (recordAt (x .now) n)) → Seq K W (‵ (frameOf E (withAt (withAt (withAt vs a (vint w64 (n * 56))) p (vptr (x .ptr .0) (spot 56 (x .ptr .1) n))) d (valOf (recordAt (x .now) n))))
-      ∷ ‵ (cellAt fullShare (R .mir) (valsOf (recordAt (x .now) n)) (x .ptr .0) (spot 56 (x .ptr .1) n)) ∷ ‵ (R .own (recordAt (x .now) n) (valsOf (recordAt (x .now) n))) ∷ ‵ (others (shares R) fullShare (x .now) n (x .ptr .0) (x .ptr .1)) ∷ Γ) (runs C Λ E rest q))
+  pub takes : K → (x : RefT (List Record)) (n : ℕ) → n < length (x .now) → Room R (length (x .now)) → {m : ℕ} {ℓ : Lifetime} {μ : Mutability} {ρ : Ty} → heldIn E vs i ≡ some (vint w64 n) → (In E vs a × In E (withAt vs a (vint w64 (n * record-size))) p) × In E (pointed vs a p x n) d → spotOf 𝓤 H E a .0 ≡ tyInt w64 → spotOf 𝓤 H E p .0 ≡ tyPtr
+      → spotOf 𝓤 H E 1 .0 ≡ sliceTy (tyRef ℓ μ ρ) → spotOf 𝓤 H E d .0 ≡ T′.mir → heldIn E (withAt vs a (vint w64 (n * record-size))) 1 ≡ some (sliceVal (x .ptr) m) → heldIn E (withAt vs a (vint w64 (n * record-size))) a ≡ some (vint w64 (n * record-size))
+      → heldIn E (withAt (withAt vs a (vint w64 (n * record-size))) p (vptr (x .ptr .0) (spot record-size (x .ptr .1) n))) p ≡ some (vptr (x .ptr .0) (spot record-size (x .ptr .1) n))
+      → (Is R (recordAt (x .now) n) (valsOf (recordAt (x .now) n)) → Seq K W (‵ (frameOf E (withAt (withAt (withAt vs a (vint w64 (n * record-size))) p (vptr (x .ptr .0) (spot record-size (x .ptr .1) n))) d (valOf (recordAt (x .now) n))))
+      ∷ ‵ (cellAt fullShare (R .mir) (valsOf (recordAt (x .now) n)) (x .ptr .0) (spot record-size (x .ptr .1) n)) ∷ ‵ (R .own (recordAt (x .now) n) (valsOf (recordAt (x .now) n))) ∷ ‵ (others (shares R) fullShare (x .now) n (x .ptr .0) (x .ptr .1)) ∷ Γ) (runs C Λ E rest q))
       → Seq K W (‵ (frameOf E vs) ∷ ‵ (row R fullShare (x .now) (x .ptr .0) (x .ptr .1)) ∷ Γ)
-      (runs C Λ E (seq (assign (place a []) (op2 (mul unsigned) (copy (place i [])) (int w64 56))) (seq (assign (place p []) (op2 offset (copy (place 1 (field 0 ∷ []))) (copy (place a [])))) (seq (assign (place d []) (rvOpd (copy (place p (deref T′.mir ∷ []))))) rest))) q)
+      (runs C Λ E (seq (assign (place a []) (op2 (mul unsigned) (copy (place i [])) (int w64 record-size))) (seq (assign (place p []) (op2 offset (copy (place 1 (field 0 ∷ []))) (copy (place a [])))) (seq (assign (place d []) (rvOpd (copy (place p (deref T′.mir ∷ []))))) rest))) q)
   takes t x n l room at-i ins ty-a ty-p ty-t ty-d at-t at-a at-p k =
       points t at-i (byte-fits (length (x .now)) n room l) (ins .0) ty-a ty-p ty-t at-t at-a $ move t (1 ∷ []) $ row-out t fullShare (x .now) n (x .ptr .0) (x .ptr .1) l (λ g. move t (3 ∷ []) $
       sets t (of-opd t (load t (from t (hop t (look-in t 0 (local t p at-p)) (stop t))) (look-raw t 1 refl))) (ins .1) (subst (λ (τ : Ty). Holds (hasTy τ (valOf (recordAt (x .now) n))) × WT (valOf (recordAt (x .now) n))) (sym ty-d) (typed 𝓤 H A W (recordAt (x .now) n) g)) $ k g)
@@ -118,15 +118,15 @@ module _ {M : Type 1} {𝓤 : URA M} {H : Heap 𝓤} {A : Atoms 𝓤} {K : Type 
   -- the step has returned w, which is y: it is stored in local s, and then the rest
   pub leaves : K → FmC 𝓤 H (W .laws) C → (at-mem : Memory → SProp 𝓤) (run : Routine → Fun 𝓤) → Triple 𝓤 (C #settle) (Settle 𝓤 H A at-mem run) → {Kf : Val → SProp 𝓤} {a p i s : ℕ} (x : RefT (List Record)) (n : ℕ) → n < length (x .now) → Room R (length (x .now))
       → {w : Val} (z y : LinkStep) (h : Head) (time : ℕ) → z ≡ y → Is S.the-row z (w ∷ []) → Is HD.the-row h (LL.vals HD.the-type HD′.the-laws h) → time < 2 ^ 64 → {m : ℕ} {ℓ : Lifetime} {μ : Mutability} {ρ : Ty}
-      → heldIn E (stepped vs s y) i ≡ some (vint w64 n) → ((In E (stepped vs s y) a × In E (withAt (stepped vs s y) a (vint w64 (n * 56))) p) × In E (pointed (stepped vs s y) a p x n) 0) × In E vs s → spotOf 𝓤 H E a .0 ≡ tyInt w64 → spotOf 𝓤 H E p .0 ≡ tyPtr → spotOf 𝓤 H E 1 .0 ≡ sliceTy (tyRef ℓ μ ρ) → spotOf 𝓤 H E s .0 ≡ S′.mir → O.the-row .mir ≡ spotOf 𝓤 H E 0 .0 ∷ []
-      → heldIn E (withAt (stepped vs s y) a (vint w64 (n * 56))) 1 ≡ some (sliceVal (x .ptr) m) → heldIn E (withAt (stepped vs s y) a (vint w64 (n * 56))) a ≡ some (vint w64 (n * 56))
-      → (heldIn E (pointed (stepped vs s y) a p x n) p ≡ some (vptr (x .ptr .0) (spot 56 (x .ptr .1) n))) × ((heldIn E (pointed (stepped vs s y) a p x n) s ≡ some (LL.val S.the-type S′.the-laws y))
+      → heldIn E (stepped vs s y) i ≡ some (vint w64 n) → ((In E (stepped vs s y) a × In E (withAt (stepped vs s y) a (vint w64 (n * record-size))) p) × In E (pointed (stepped vs s y) a p x n) 0) × In E vs s → spotOf 𝓤 H E a .0 ≡ tyInt w64 → spotOf 𝓤 H E p .0 ≡ tyPtr → spotOf 𝓤 H E 1 .0 ≡ sliceTy (tyRef ℓ μ ρ) → spotOf 𝓤 H E s .0 ≡ S′.mir → O.the-row .mir ≡ spotOf 𝓤 H E 0 .0 ∷ []
+      → heldIn E (withAt (stepped vs s y) a (vint w64 (n * record-size))) 1 ≡ some (sliceVal (x .ptr) m) → heldIn E (withAt (stepped vs s y) a (vint w64 (n * record-size))) a ≡ some (vint w64 (n * record-size))
+      → (heldIn E (pointed (stepped vs s y) a p x n) p ≡ some (vptr (x .ptr .0) (spot record-size (x .ptr .1) n))) × ((heldIn E (pointed (stepped vs s y) a p x n) s ≡ some (LL.val S.the-type S′.the-laws y))
       × ((heldIn E (pointed (stepped vs s y) a p x n) 2 ≡ some (LL.val HD.the-type HD′.the-laws h)) × (heldIn E (pointed (stepped vs s y) a p x n) 3 ≡ some (vint w64 time))))
       → heldIn E (withAt (pointed (stepped vs s y) a p x n) 0 (LL.val O.the-type O′.the-laws (settled y h time))) 0 ≡ some (LL.val O.the-type O′.the-laws (settled y h time)) → Holds (none-away (withAt (pointed (stepped vs s y) a p x n) 0 (LL.val O.the-type O′.the-laws (settled y h time))))
       → (ent 𝓤 (emp 𝓤) (sem 𝓤 H A (O.the-row .own (settled y h time) (LL.vals O.the-type O′.the-laws (settled y h time)))) → Seq K W (‵ (tableLasts x (set (x .now) n (y .«record»)) F) ∷ (‵ (flft κ r) ⊛ Ts) ∷ Γ) (prop (Kf (LL.val O.the-type O′.the-laws (settled y h time)))))
-      → Seq K W (‵ F ∷ Ts ∷ ‵ (frameOf E vs) ∷ ‵ (cellAt fullShare (R .mir) (valsOf (recordAt (x .now) n)) (x .ptr .0) (spot 56 (x .ptr .1) n)) ∷ ‵ (R .own (recordAt (x .now) n) (valsOf (recordAt (x .now) n))) ∷ ‵ (others (shares R) fullShare (x .now) n (x .ptr .0) (x .ptr .1))
+      → Seq K W (‵ F ∷ Ts ∷ ‵ (frameOf E vs) ∷ ‵ (cellAt fullShare (R .mir) (valsOf (recordAt (x .now) n)) (x .ptr .0) (spot record-size (x .ptr .1) n)) ∷ ‵ (R .own (recordAt (x .now) n) (valsOf (recordAt (x .now) n))) ∷ ‵ (others (shares R) fullShare (x .now) n (x .ptr .0) (x .ptr .1))
       ∷ ‵ (fobor κ r (Held R (length (x .now)) (x .ptr .0) (x .ptr .1) (x .name))) ∷ ‵ (fobs (x .name) (codedHoleys R .code (heres R (x .now)))) ∷ ‵ (fauth (x .name) (codedHoleys R .code (heres R (x .now)))) ∷ Γ)
-      (lands C Λ E (place s []) w (seq (assign (place a []) (op2 (mul unsigned) (copy (place i [])) (int w64 56))) (seq (assign (place p []) (op2 offset (copy (place 1 (field 0 ∷ []))) (copy (place a [])))) (seq (assign (place p (deref T′.mir ∷ [])) (rvOpd (copy (place s (field 0 ∷ [])))))
+      (lands C Λ E (place s []) w (seq (assign (place a []) (op2 (mul unsigned) (copy (place i [])) (int w64 record-size))) (seq (assign (place p []) (op2 offset (copy (place 1 (field 0 ∷ []))) (copy (place a [])))) (seq (assign (place p (deref T′.mir ∷ [])) (rvOpd (copy (place s (field 0 ∷ [])))))
       (seq (call #settle (copy (place s []) ∷ copy (place 2 []) ∷ copy (place 3 []) ∷ []) (place 0 [])) return)))) (atRet E Kf))
   leaves t fm at-mem run met {p = p} {s = s} x n l room {w} z y h time e is gh gt at-i ins ty-a ty-p ty-t ty-s ty-0 at-t at-a ats at-0 whole k =
       let is′ = subst (λ (u : LinkStep). Is S.the-row u (w ∷ [])) e is in let gs = told S.the-type S′.the-laws y w is′ .0 in let g = LL.owed S.the-type S′.the-laws y _ gs .0 in

@@ -2,7 +2,6 @@
 // changes one record or none.
 mod accepted;
 mod calls;
-mod exported;
 mod heads;
 mod matching;
 mod outcomes;
@@ -15,19 +14,14 @@ pub use calls::open;
 pub use calls::received;
 pub use calls::send;
 pub use calls::tick;
-pub use exported::uj_close;
-pub use exported::uj_fresh;
-pub use exported::uj_new_head;
-pub use exported::uj_open;
-pub use exported::uj_received;
-pub use exported::uj_send;
-pub use exported::uj_tick;
 pub use heads::new_head;
 use link::Answer;
 use link::Event;
 use link::Happened;
 pub use matching::first_match;
+pub use matching::route_by;
 pub use outcomes::net_data;
+pub use outcomes::plain_outcome;
 
 // The node's own bus address and the latest time seen, given to each call and handed back by it.
 #[repr(C)]

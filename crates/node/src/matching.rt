@@ -23,7 +23,7 @@ pub fn first_match(table: &[Record], route: Route) -> usize
 }
 
 // What a telegram was sent under, by its numbers.
-pub(crate) fn route_by(sender: u32, destination_sap: u32, source_sap: u32) -> Route
+pub fn route_by(sender: u32, destination_sap: u32, source_sap: u32) -> Route
     ensures { λ w. ⌜ w ≡ routeBy sender «destination_sap» «source_sap» ⌝ }
 {
     Route {

@@ -74,7 +74,7 @@ pub fn net_data(telegram: &[u8], event: Event) -> &[u8]
 }
 
 // The outcome as plain numbers.
-pub(crate) fn plain_outcome(outcome: Outcome) -> PlainOutcome
+pub fn plain_outcome(outcome: Outcome) -> PlainOutcome
     ensures { λ p. ⌜ p ≡ plain outcome ⌝ }
 {
     let head = outcome.head;
