@@ -98,37 +98,37 @@ pub(crate) fn partner(level: u32) -> End {
 fn wrong_by_partner(kind: u32, level: u32, number: u32, out: &mut [u8]) -> Written {
     let end = partner(level);
     if kind == 8 {
-        return telegram::write_idle(out, end, std::num::wrapping_add_u32(number, 256));
+        return writers::write_idle(out, end, std::num::wrapping_add_u32(number, 256));
     }
     if kind == 9 {
-        return telegram::write_authentication(out, end, number, THEIRS);
+        return writers::write_authentication(out, end, number, THEIRS);
     }
-    telegram::write_acknowledgement(out, end, number, THEIRS)
+    writers::write_acknowledgement(out, end, number, THEIRS)
 }
 
 // A telegram of the partner's, by its kind: 1 to 7 as an answer names them, or a wrong one.
 fn written_by_partner(kind: u32, level: u32, number: u32, out: &mut [u8]) -> Written {
     let end = partner(level);
     if kind == 1 {
-        return telegram::write_request(out, end, THEIRS, 700, b"");
+        return writers::write_request(out, end, THEIRS, 700, b"");
     }
     if kind == 2 {
-        return telegram::write_confirm(out, end, THEIRS, 700, b"");
+        return writers::write_confirm(out, end, THEIRS, 700, b"");
     }
     if kind == 3 {
-        return telegram::write_authentication(out, end, number, OURS);
+        return writers::write_authentication(out, end, number, OURS);
     }
     if kind == 4 {
-        return telegram::write_acknowledgement(out, end, number, OURS);
+        return writers::write_acknowledgement(out, end, number, OURS);
     }
     if kind == 5 {
-        return telegram::write_disconnect(out, end, number, 1, 0x21, b"");
+        return writers::write_disconnect(out, end, number, 1, 0x21, b"");
     }
     if kind == 6 {
-        return telegram::write_idle(out, end, number);
+        return writers::write_idle(out, end, number);
     }
     if kind == 7 {
-        return telegram::write_data(out, end, number, 0x09, b"net");
+        return writers::write_data(out, end, number, 0x09, b"net");
     }
     wrong_by_partner(kind, level, number, out)
 }

@@ -92,7 +92,7 @@ fn unwatched(level: u32) {
 fn disconnected(name: &[u8], level: u32, number: u32, new_setup: u32) {
     let mut telegram = [0u8; 244];
     let mut out = [0u8; 244];
-    let written = telegram::write_disconnect(
+    let written = writers::write_disconnect(
         &mut telegram,
         partner(level),
         number,

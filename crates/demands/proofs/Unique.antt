@@ -1,7 +1,7 @@
 -- Two results that meet a promise are equal: a promise says what each part equals, and two things that equal a third are equal.
 -- Assumes nothing.
 use mathlib.Core.Path.{_≡_, sym, _∙_}
-use Rattle.demands.specs.Unique.{Ground, Rows48, Rows32, Checkword, Telegram, Link, Link-c, Firmware, Node, Node-c, Clock, Uniqueness}
+use Rattle.demands.specs.Unique.{Ground, Rows48, Rows32, Checkword, Telegram, Writers, Checking, Link, Link-c, Firmware, Node, Node-c, Clock, Uniqueness}
 
 -- A promise that is one equation, two, three.
 unique : {A : Type 0} {x : A} (r s : A) → r ≡ x → s ≡ x → r ≡ s
@@ -15,7 +15,13 @@ unique₃ : {A B C : Type 0} {x : A} {y : B} {z : C} (r s : A) (t u : B) (a b : 
 unique₃ r s t u a b p q = (unique r s (p .0) (q .0), unique₂ t u a b (p .1) (q .1))
 
 ground : Ground
-ground = record { byte = λ t at. unique; «number_at1» = λ t at. unique; «number_at2» = λ t at. unique; «number_at4» = λ t at. unique }
+ground =
+    record {
+      byte = λ t at. unique;
+      «number_at1» = λ t at. unique;
+      «number_at2» = λ t at. unique;
+      «number_at4» = λ t at. unique;
+    }
 
 rows48 : Rows48
 rows48 = record { low = λ v. unique; high = λ y v. unique }
@@ -34,7 +40,22 @@ telegram : Telegram
 telegram =
     record {
       «in_range» = λ end. unique;
+      «sending_bytes» = λ end number count. unique;
+      «receiving_bytes» = λ end number count. unique;
+      «level_of» = λ command. unique;
+      «top_bits» = λ level. unique;
+      «word_length» = λ level. unique;
+      «added_number» = λ level. unique;
+      «word_of» = λ level first second. unique;
+      «is_data» = λ low. unique;
+      «kind_of» = λ low. unique;
+      «is_known» = λ kind. unique;
       «good_idle» = λ time. unique;
+      «good_type» = λ kind. unique;
+      «listed_reason» = λ reason. unique;
+      «good_dual_bus» = λ bus. unique;
+      «most_net» = λ kind level. unique;
+      «length_suits» = λ kind level length. unique;
       «on_bus» = λ length. unique;
       «command_low» = λ telegram. unique;
       «kind_of_telegram» = λ telegram. unique;
@@ -45,6 +66,13 @@ telegram =
       «authentication_number» = λ telegram. unique;
       «disconnect_type» = λ telegram. unique;
       «disconnect_reason» = λ telegram. unique;
+      «net_part» = λ telegram. unique;
+      «net_data» = λ telegram. unique;
+    }
+
+writers : Writers
+writers =
+    record {
       «authentication_of» = λ level received. unique;
       «connect_allowed» = λ time count level. unique;
       «disconnect_allowed» = λ «new_setup» reason count level. unique;
@@ -56,8 +84,11 @@ telegram =
       «write_disconnect» = λ out end number «new_setup» reason text. unique₂;
       «write_idle» = λ out end number. unique₂;
       «write_data» = λ out end number low net. unique₂;
-      «net_part» = λ telegram. unique;
-      «net_data» = λ telegram. unique;
+    }
+
+checking : Checking
+checking =
+    record {
       checked = λ end expected telegram. unique;
       «answer_number» = λ check. unique;
     }
@@ -146,4 +177,19 @@ clock =
     }
 
 pub uniqueness : Uniqueness
-uniqueness = record { ground = ground; rows48 = rows48; rows32 = rows32; checkword = checkword; telegram = telegram; link = link; link-c = link-c; firmware = firmware; node = node; node-c = node-c; clock = clock }
+uniqueness =
+    record {
+      ground = ground;
+      rows48 = rows48;
+      rows32 = rows32;
+      checkword = checkword;
+      telegram = telegram;
+      writers = writers;
+      checking = checking;
+      link = link;
+      link-c = link-c;
+      firmware = firmware;
+      node = node;
+      node-c = node-c;
+      clock = clock;
+    }

@@ -9,22 +9,24 @@ use mathlib.Core.List.{List, _++_}
 use Prim.Native.Nat.{ℕ}
 use lib.Bits.{bitXor}
 use lib.ListN.{getD}
+use Rattle.ground.specs.Numbers.{numberAt}
 use Rattle.digits.specs.Digits.{picked}
 use Rattle.rows48.specs.Rows as rows48
 use Rattle.rows32.specs.Rows as rows32
-use Rattle.ground.specs.Numbers.{numberAt}
 use Rattle.checkword.specs.Generators.{generator48, generator32}
 use Rattle.checkword.specs.Word.{word}
-use Rattle.telegram.specs.Commands.{kindOfCommand}
-use Rattle.telegram.specs.Layout.{onBus}
-use Rattle.telegram.specs.Ends.{inRange}
-use Rattle.telegram.specs.Telegrams.{authenticationNumber}
-use Rattle.telegram.specs.Values.{goodIdle}
+use Rattle.telegram.specs.Levels.{levelOf, topBits, wordLength, added}
+use Rattle.telegram.specs.Commands.{isData, kindOf, kindOfCommand, known}
+use Rattle.telegram.specs.Layout.{most, suits, onBus}
+use Rattle.telegram.specs.Ends.{inRange, sending, receiving}
+use Rattle.telegram.specs.Telegrams.{checkWord, authenticationNumber}
+use Rattle.telegram.specs.Values.{goodIdle, goodType, listedReason, goodDualBus}
 use Rattle.telegram.specs.Writers.{answerOf, leftBy, connectAllowed, disconnectAllowed, dataAllowed, writesRequest, writesConfirm, writesAuthentication, writesAcknowledgement, writesDisconnect, writesIdle, writesData}
 use Rattle.telegram.specs.Check.{commandOf, checkOf, answerNumber}
 use Rattle.telegram.specs.NetData.{netPart, netData}
 use Rattle.telegram.specs.Fields.{randomOf, idleTimeOf, versionXOf, versionYOf, authenticationOf, typeOf, reasonOf, lowOf}
 use Rattle.telegram.specs.declared.End.{End}
+use Rattle.telegram.specs.declared.Level.{Level}
 use Rattle.telegram.specs.declared.Kind.{Kind}
 use Rattle.telegram.specs.declared.Written.{Written}
 use Rattle.telegram.specs.declared.Check.{Check}
@@ -81,7 +83,7 @@ Unique₃ {A} {B} {C} P = (r s : A) (t u : B) (a b : C) → P r t a → P s u b 
 
 -- The public functions of `ground`.
 pub record Ground : Type 0 where
-  -- src/numbers.rt: a byte, and numbers of one, two and four bytes
+  -- src/numbers.rt: a byte, and numbers of several bytes
   pub byte : (t : List ℕ) (at : ℕ) → Unique (λ (x : ℕ). x ≡ getD t at 0)
   pub «number_at1» : (t : List ℕ) (at : ℕ) → Unique (λ (x : ℕ). x ≡ numberAt 1 at t)
   pub «number_at2» : (t : List ℕ) (at : ℕ) → Unique (λ (x : ℕ). x ≡ numberAt 2 at t)
@@ -106,11 +108,28 @@ pub record Checkword : Type 0 where
 
 -- The public functions of `telegram`.
 pub record Telegram : Type 0 where
-  -- src/ends.rt: an end in range
+  -- src/ends.rt: an end in range, and the implicit bytes of what it writes and takes
   pub «in_range» : (end : End) → Unique (λ (b : Bool). b ≡ inRange end)
-  -- src/values.rt: an idle time
+  pub «sending_bytes» : (end : End) (number count : ℕ) → Unique (λ (r : List ℕ). r ≡ sending end number count)
+  pub «receiving_bytes» : (end : End) (number count : ℕ) → Unique (λ (r : List ℕ). r ≡ receiving end number count)
+  -- src/levels.rt: the level that a command gives, and what differs by level
+  pub «level_of» : (command : ℕ) → Unique (λ (l : Level). l ≡ levelOf command)
+  pub «top_bits» : (level : ℕ) → Unique (λ (b : ℕ). b ≡ topBits level)
+  pub «word_length» : (level : ℕ) → Unique (λ (n : ℕ). n ≡ wordLength level)
+  pub «added_number» : (level : ℕ) → Unique (λ (n : ℕ). n ≡ added level)
+  pub «word_of» : (level : ℕ) (first second : List ℕ) → Unique (λ (w : ℕ). w ≡ checkWord level first second)
+  -- src/commands.rt: what a command's low six bits name
+  pub «is_data» : (low : ℕ) → Unique (λ (b : Bool). b ≡ isData low)
+  pub «kind_of» : (low : ℕ) → Unique (λ (k : Kind). k ≡ kindOf low)
+  pub «is_known» : (kind : Kind) → Unique (λ (b : Bool). b ≡ known kind)
+  -- src/values.rt: the values that fields may have
   pub «good_idle» : (time : ℕ) → Unique (λ (b : Bool). b ≡ goodIdle time)
-  -- src/layout.rt: a length that the bus carries
+  pub «good_type» : (kind : ℕ) → Unique (λ (b : Bool). b ≡ goodType kind)
+  pub «listed_reason» : (reason : ℕ) → Unique (λ (b : Bool). b ≡ listedReason reason)
+  pub «good_dual_bus» : (bus : ℕ) → Unique (λ (b : Bool). b ≡ goodDualBus bus)
+  -- src/layout.rt: how many net data, and which lengths suit a kind and the bus
+  pub «most_net» : (kind : Kind) (level : ℕ) → Unique (λ (n : ℕ). n ≡ most kind level)
+  pub «length_suits» : (kind : Kind) (level length : ℕ) → Unique (λ (b : Bool). b ≡ suits kind level length)
   pub «on_bus» : (length : ℕ) → Unique (λ (b : Bool). b ≡ onBus length)
   -- src/fields.rt: the fields of a telegram
   pub «command_low» : (telegram : List ℕ) → Unique (λ (n : ℕ). n ≡ lowOf telegram)
@@ -122,6 +141,12 @@ pub record Telegram : Type 0 where
   pub «authentication_number» : (telegram : List ℕ) → Unique (λ (n : ℕ). n ≡ authenticationOf telegram)
   pub «disconnect_type» : (telegram : List ℕ) → Unique (λ (n : ℕ). n ≡ typeOf telegram)
   pub «disconnect_reason» : (telegram : List ℕ) → Unique (λ (n : ℕ). n ≡ reasonOf telegram)
+  -- src/parts.rt: where the net data lie, and the net data
+  pub «net_part» : (telegram : List ℕ) → Unique (λ (p : Part). p ≡ netPart telegram)
+  pub «net_data» : (telegram : List ℕ) → Unique (λ (r : List ℕ). r ≡ netData telegram)
+
+-- The public functions of `writers`.
+pub record Writers : Type 0 where
   -- src/write.rt: the authentication number, what a telegram may carry, and the seven writers
   pub «authentication_of» : (level received : ℕ) → Unique (λ (n : ℕ). n ≡ authenticationNumber level received)
   pub «connect_allowed» : (time count level : ℕ) → Unique (λ (b : Bool). b ≡ connectAllowed time count level)
@@ -155,9 +180,9 @@ pub record Telegram : Type 0 where
       → Unique₂ (λ (r : Written) (out′ : List ℕ).
       (r ≡ answerOf (writesData end number low net out))
       × (out′ ≡ leftBy (writesData end number low net out) out))
-  -- src/parts.rt: where the net data lie, and the net data
-  pub «net_part» : (telegram : List ℕ) → Unique (λ (p : Part). p ≡ netPart telegram)
-  pub «net_data» : (telegram : List ℕ) → Unique (λ (r : List ℕ). r ≡ netData telegram)
+
+-- The public functions of `checking`.
+pub record Checking : Type 0 where
   -- src/check_telegram.rt: the check, and its number
   pub checked : (end : End) (expected : ℕ) (telegram : List ℕ) → Unique (λ (k : Check). k ≡ checkOf end expected telegram)
   pub «answer_number» : (check : Check) → Unique (λ (n : ℕ). n ≡ answerNumber check)
@@ -358,6 +383,8 @@ pub record Uniqueness : Type 0 where
   pub rows32 : Rows32
   pub checkword : Checkword
   pub telegram : Telegram
+  pub writers : Writers
+  pub checking : Checking
   pub link : Link
   pub link-c : Link-c
   pub firmware : Firmware

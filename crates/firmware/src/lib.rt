@@ -42,7 +42,7 @@ pub extern "C" fn uj_write_request(
     ensures { λ r. ⌜ (r ≡ answerOf (writesRequest (endOf own partner «partner_sap» «local_sap» level) random «idle_time» (now (net .entry)) (now (out .entry)))) × (now (out .exit) ≡ leftBy (writesRequest (endOf own partner «partner_sap» «local_sap» level) random «idle_time» (now (net .entry)) (now (out .entry))) (now (out .entry))) ⌝ }
 {
     let end = end_of(own, partner, partner_sap, local_sap, level);
-    telegram::write_request(out, end, random, idle_time, net)
+    writers::write_request(out, end, random, idle_time, net)
 }
 
 // Connect confirm.
@@ -61,7 +61,7 @@ pub extern "C" fn uj_write_confirm(
     ensures { λ r. ⌜ (r ≡ answerOf (writesConfirm (endOf own partner «partner_sap» «local_sap» level) random «idle_time» (now (net .entry)) (now (out .entry)))) × (now (out .exit) ≡ leftBy (writesConfirm (endOf own partner «partner_sap» «local_sap» level) random «idle_time» (now (net .entry)) (now (out .entry))) (now (out .entry))) ⌝ }
 {
     let end = end_of(own, partner, partner_sap, local_sap, level);
-    telegram::write_confirm(out, end, random, idle_time, net)
+    writers::write_confirm(out, end, random, idle_time, net)
 }
 
 // Authentication, from the number received at set-up.
@@ -79,7 +79,7 @@ pub extern "C" fn uj_write_authentication(
     ensures { λ r. ⌜ (r ≡ answerOf (writesAuthentication (endOf own partner «partner_sap» «local_sap» level) number received (now (out .entry)))) × (now (out .exit) ≡ leftBy (writesAuthentication (endOf own partner «partner_sap» «local_sap» level) number received (now (out .entry))) (now (out .entry))) ⌝ }
 {
     let end = end_of(own, partner, partner_sap, local_sap, level);
-    telegram::write_authentication(out, end, number, received)
+    writers::write_authentication(out, end, number, received)
 }
 
 // Authentication acknowledgement, from the number received at set-up.
@@ -97,7 +97,7 @@ pub extern "C" fn uj_write_acknowledgement(
     ensures { λ r. ⌜ (r ≡ answerOf (writesAcknowledgement (endOf own partner «partner_sap» «local_sap» level) number received (now (out .entry)))) × (now (out .exit) ≡ leftBy (writesAcknowledgement (endOf own partner «partner_sap» «local_sap» level) number received (now (out .entry))) (now (out .entry))) ⌝ }
 {
     let end = end_of(own, partner, partner_sap, local_sap, level);
-    telegram::write_acknowledgement(out, end, number, received)
+    writers::write_acknowledgement(out, end, number, received)
 }
 
 // Disconnect. A new set-up is desired, 1, or the disconnection is final, 0.
@@ -117,7 +117,7 @@ pub extern "C" fn uj_write_disconnect(
     ensures { λ r. ⌜ (r ≡ answerOf (writesDisconnect (endOf own partner «partner_sap» «local_sap» level) number «new_setup» reason (now (text .entry)) (now (out .entry)))) × (now (out .exit) ≡ leftBy (writesDisconnect (endOf own partner «partner_sap» «local_sap» level) number «new_setup» reason (now (text .entry)) (now (out .entry))) (now (out .entry))) ⌝ }
 {
     let end = end_of(own, partner, partner_sap, local_sap, level);
-    telegram::write_disconnect(out, end, number, new_setup, reason, text)
+    writers::write_disconnect(out, end, number, new_setup, reason, text)
 }
 
 // Idle.
@@ -134,7 +134,7 @@ pub extern "C" fn uj_write_idle(
     ensures { λ r. ⌜ (r ≡ answerOf (writesIdle (endOf own partner «partner_sap» «local_sap» level) number (now (out .entry)))) × (now (out .exit) ≡ leftBy (writesIdle (endOf own partner «partner_sap» «local_sap» level) number (now (out .entry))) (now (out .entry))) ⌝ }
 {
     let end = end_of(own, partner, partner_sap, local_sap, level);
-    telegram::write_idle(out, end, number)
+    writers::write_idle(out, end, number)
 }
 
 // Data, with the command's low six bits.
@@ -153,7 +153,7 @@ pub extern "C" fn uj_write_data(
     ensures { λ r. ⌜ (r ≡ answerOf (writesData (endOf own partner «partner_sap» «local_sap» level) number command (now (net .entry)) (now (out .entry)))) × (now (out .exit) ≡ leftBy (writesData (endOf own partner «partner_sap» «local_sap» level) number command (now (net .entry)) (now (out .entry))) (now (out .entry))) ⌝ }
 {
     let end = end_of(own, partner, partner_sap, local_sap, level);
-    telegram::write_data(out, end, number, command, net)
+    writers::write_data(out, end, number, command, net)
 }
 
 // The check of a received telegram, as a number: 0 passes, 1 and 6 refused, 100 failed.
@@ -170,7 +170,7 @@ pub extern "C" fn uj_check(
     ensures { λ n. ⌜ n ≡ answerNumber (checkOf (endOf own partner «partner_sap» «local_sap» level) expected (now (telegram .entry))) ⌝ }
 {
     let end = end_of(own, partner, partner_sap, local_sap, level);
-    telegram::answer_number(telegram::checked(end, expected, telegram))
+    checking::answer_number(checking::checked(end, expected, telegram))
 }
 
 // Where the net data of a telegram lie.

@@ -114,7 +114,7 @@ fn confirm_step(
     r.watched = telegram::idle_time(telegram);
     r.sent_at = time;
     r.taken_at = time;
-    let written = telegram::write_confirm(out, end, random, declared, net);
+    let written = writers::write_confirm(out, end, random, declared, net);
     written_step(written, record, r, CONFIRM, Event::Nothing)
 }
 
@@ -131,7 +131,7 @@ fn authenticate_step(record: Record, own: u32, time: u64, telegram: &[u8], out: 
     r.watched = telegram::idle_time(telegram);
     r.sent_at = time;
     r.taken_at = time;
-    let written = telegram::write_authentication(out, end, record.sending, received);
+    let written = writers::write_authentication(out, end, record.sending, received);
     written_step(written, record, r, AUTHENTICATION, Event::Nothing)
 }
 
@@ -147,7 +147,7 @@ fn acknowledge_step(record: Record, own: u32, time: u64, out: &mut [u8]) -> Step
     r.expected = std::num::wrapping_add_u32(record.expected, 1);
     r.sent_at = time;
     r.taken_at = time;
-    let written = telegram::write_acknowledgement(out, end, record.sending, received);
+    let written = writers::write_acknowledgement(out, end, record.sending, received);
     written_step(written, record, r, ACKNOWLEDGEMENT, Event::Opened)
 }
 
@@ -178,7 +178,7 @@ fn idle_step(record: Record, own: u32, time: u64, out: &mut [u8]) -> Step
 {
     let end = end_of(record, own);
     let r = after_sending(record, time);
-    let written = telegram::write_idle(out, end, record.sending);
+    let written = writers::write_idle(out, end, record.sending);
     written_step(written, record, r, IDLE, Event::Nothing)
 }
 
@@ -196,7 +196,7 @@ fn close_step(record: Record, own: u32, reason: u32, last: bool, out: &mut [u8])
     let end = end_of(record, own);
     let r = closed_by(last, record);
     let new_setup = new_setup_after(last);
-    let written = telegram::write_disconnect(out, end, record.sending, new_setup, reason, b"");
+    let written = writers::write_disconnect(out, end, record.sending, new_setup, reason, b"");
     written_step(
         written,
         record,
@@ -215,7 +215,7 @@ fn close_on_tick(record: Record, own: u32, reason: u32, last: bool, out: &mut [u
     let r = closed_by(last, record);
     let new_setup = new_setup_after(last);
     let number = record.sending;
-    let written = telegram::write_disconnect(out, end, number, new_setup, reason, b"");
+    let written = writers::write_disconnect(out, end, number, new_setup, reason, b"");
     written_step(
         written,
         record,

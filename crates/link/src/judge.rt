@@ -258,7 +258,7 @@ fn good_number(record: Record, before: u32, telegram: &[u8]) -> bool
     ensures { λ b. ⌜ b ≡ goodNumber «record» before (now (telegram .entry)) ⌝ }
 {
     let ours = std::num::wrapping_add_u32(record.sending, 0xFFFF_FFFF - before + 1);
-    telegram::authentication_number(telegram) == telegram::authentication_of(record.level, ours)
+    telegram::authentication_number(telegram) == writers::authentication_of(record.level, ours)
 }
 
 // What the table leaves open: version and authentication number.
@@ -352,7 +352,7 @@ pub(crate) fn judge(record: Record, own: u32, time: u64, telegram: &[u8]) -> Ver
         return run_out_verdict(record.phase);
     }
     let end = end_of(record, own);
-    let check = telegram::checked(end, expected_now(record), telegram);
+    let check = checking::checked(end, expected_now(record), telegram);
     judge_checked(check, record, telegram)
 }
 

@@ -104,7 +104,7 @@ pub fn open(
     ensures { λ s. ⌜ (s ≡ openOf «record» own time random idle (now (net .entry)) (now (out .entry))) × (now (out .exit) ≡ openOut «record» own random idle (now (net .entry)) (now (out .entry))) ⌝ }
 {
     let declared = declared_by(idle);
-    let allowed = telegram::connect_allowed(declared, net.len(), record.level);
+    let allowed = writers::connect_allowed(declared, net.len(), record.level);
     let live = is_not(record.phase, FINALLY_CLOSED);
     let suited = record.phase == CLOSED;
     let ranged = record_in_range(record, own);
@@ -115,7 +115,7 @@ pub fn open(
     }
     let end = end_of(record, own);
     let r = after_request(record, time, random, declared);
-    let written = telegram::write_request(out, end, random, declared, net);
+    let written = writers::write_request(out, end, random, declared, net);
     written_step(written, record, r, REQUEST, Event::Nothing)
 }
 
@@ -130,7 +130,7 @@ pub fn close(
 ) -> Step
     ensures { λ s. ⌜ (s ≡ closeOf «record» own «new_setup» reason (now (text .entry)) (now (out .entry))) × (now (out .exit) ≡ closeOut «record» own «new_setup» reason (now (text .entry)) (now (out .entry))) ⌝ }
 {
-    let allowed = telegram::disconnect_allowed(new_setup, reason, text.len(), record.level);
+    let allowed = writers::disconnect_allowed(new_setup, reason, text.len(), record.level);
     let live = is_not(record.phase, FINALLY_CLOSED);
     let suited = is_not(record.phase, CLOSED);
     let ranged = record_in_range(record, own);
@@ -142,7 +142,7 @@ pub fn close(
     let end = end_of(record, own);
     let last = new_setup == 0;
     let r = closed_by(last, record);
-    let written = telegram::write_disconnect(out, end, record.sending, new_setup, reason, text);
+    let written = writers::write_disconnect(out, end, record.sending, new_setup, reason, text);
     written_step(
         written,
         record,
@@ -156,7 +156,7 @@ pub fn close(
 pub fn send(record: Record, own: u32, time: u64, command: u32, net: &[u8], out: &mut [u8]) -> Step
     ensures { λ s. ⌜ (s ≡ sendOf «record» own time command (now (net .entry)) (now (out .entry))) × (now (out .exit) ≡ sendOut «record» own command (now (net .entry)) (now (out .entry))) ⌝ }
 {
-    let allowed = telegram::data_allowed(command, net.len(), record.level);
+    let allowed = writers::data_allowed(command, net.len(), record.level);
     let live = is_not(record.phase, FINALLY_CLOSED);
     let suited = record.phase == OPEN;
     let ranged = record_in_range(record, own);
@@ -167,7 +167,7 @@ pub fn send(record: Record, own: u32, time: u64, command: u32, net: &[u8], out: 
     }
     let end = end_of(record, own);
     let r = after_sending(record, time);
-    let written = telegram::write_data(out, end, record.sending, command, net);
+    let written = writers::write_data(out, end, record.sending, command, net);
     written_step(written, record, r, DATA, Event::Nothing)
 }
 
@@ -185,7 +185,7 @@ pub fn received(
     ensures { λ s. ⌜ (s ≡ receivedOf «record» own time random idle (now (telegram .entry)) (now (net .entry)) (now (out .entry))) × (now (out .exit) ≡ receivedOut «record» own time random idle (now (telegram .entry)) (now (net .entry)) (now (out .entry))) ⌝ }
 {
     let declared = declared_by(idle);
-    let allowed = telegram::connect_allowed(declared, net.len(), record.level);
+    let allowed = writers::connect_allowed(declared, net.len(), record.level);
     let live = is_not(record.phase, FINALLY_CLOSED);
     let carried = telegram::on_bus(telegram.len());
     let ranged = record_in_range(record, own);

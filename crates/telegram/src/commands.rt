@@ -3,20 +3,20 @@ ghost use mathlib.Core.Path.{_≡_};
 ghost use Rattle.telegram.specs.Commands.{isData, kindOf, known};
 use crate::Kind;
 
-pub(crate) const REQUEST: u32 = 0x00;
+pub const REQUEST: u32 = 0x00;
 
-pub(crate) const CONFIRM: u32 = 0x02;
+pub const CONFIRM: u32 = 0x02;
 
-pub(crate) const AUTHENTICATION: u32 = 0x03;
+pub const AUTHENTICATION: u32 = 0x03;
 
-pub(crate) const ACKNOWLEDGEMENT: u32 = 0x04;
+pub const ACKNOWLEDGEMENT: u32 = 0x04;
 
-pub(crate) const DISCONNECT: u32 = 0x05;
+pub const DISCONNECT: u32 = 0x05;
 
-pub(crate) const IDLE: u32 = 0x06;
+pub const IDLE: u32 = 0x06;
 
 // Whether these low six bits name a data telegram.
-pub(crate) fn is_data(low: u32) -> bool
+pub fn is_data(low: u32) -> bool
     ensures { λ b. ⌜ b ≡ isData low ⌝ }
 {
     if low == 0x09 {
@@ -29,7 +29,7 @@ pub(crate) fn is_data(low: u32) -> bool
 }
 
 // What low six bits name.
-pub(crate) fn kind_of(low: u32) -> Kind
+pub fn kind_of(low: u32) -> Kind
     ensures { λ k. ⌜ k ≡ kindOf low ⌝ }
 {
     if low == REQUEST {
@@ -57,7 +57,7 @@ pub(crate) fn kind_of(low: u32) -> Kind
 }
 
 // Whether a telegram can be of this kind.
-pub(crate) fn is_known(kind: Kind) -> bool
+pub fn is_known(kind: Kind) -> bool
     ensures { λ b. ⌜ b ≡ known kind ⌝ }
 {
     match kind {

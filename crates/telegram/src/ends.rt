@@ -61,7 +61,7 @@ fn implicit_bytes(
 }
 
 // Of what this end writes: the partner's SAP is the destination, its own the source.
-pub(crate) fn sending_bytes(end: End, number: u32, count: usize) -> [u8; 8]
+pub fn sending_bytes(end: End, number: u32, count: usize) -> [u8; 8]
     ensures { λ r. ⌜ r ≡ sending end number count ⌝ }
 {
     let receiver = end.partner;
@@ -71,7 +71,7 @@ pub(crate) fn sending_bytes(end: End, number: u32, count: usize) -> [u8; 8]
 }
 
 // Of what this end takes: its own SAP is the destination, the partner's the source.
-pub(crate) fn receiving_bytes(end: End, number: u32, count: usize) -> [u8; 8]
+pub fn receiving_bytes(end: End, number: u32, count: usize) -> [u8; 8]
     ensures { λ r. ⌜ r ≡ receiving end number count ⌝ }
 {
     let sender = end.partner;

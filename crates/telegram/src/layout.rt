@@ -24,7 +24,7 @@ pub(crate) fn header_length(kind: Kind) -> usize
 }
 
 // How many net bytes a telegram of this kind can carry.
-pub(crate) fn most_net(kind: Kind, level: u32) -> usize
+pub fn most_net(kind: Kind, level: u32) -> usize
     ensures { λ n. ⌜ n ≡ most kind level ⌝ }
 {
     let word = word_length(level);
@@ -41,7 +41,7 @@ pub(crate) fn most_net(kind: Kind, level: u32) -> usize
 }
 
 // Whether this length suits the kind and level.
-pub(crate) fn length_suits(kind: Kind, level: u32, length: usize) -> bool
+pub fn length_suits(kind: Kind, level: u32, length: usize) -> bool
     ensures { λ b. ⌜ b ≡ suits kind level length ⌝ }
 {
     let word = word_length(level);

@@ -5,7 +5,7 @@ ghost use Rattle.telegram.specs.Telegrams.{checkWord};
 use crate::Level;
 
 // The level that a command's top two bits give.
-pub(crate) fn level_of(command: u8) -> Level
+pub fn level_of(command: u8) -> Level
     ensures { λ l. ⌜ l ≡ levelOf command ⌝ }
 {
     let top = command / 64;
@@ -22,28 +22,28 @@ pub(crate) fn level_of(command: u8) -> Level
 }
 
 // The top two bits of the level's commands.
-pub(crate) fn top_bits(level: u32) -> u32
+pub fn top_bits(level: u32) -> u32
     ensures { λ b. ⌜ b ≡ topBits level ⌝ }
 {
     if level == 4 { 2 } else { 0 }
 }
 
 // How many bytes the level's check word has.
-pub(crate) fn word_length(level: u32) -> usize
+pub fn word_length(level: u32) -> usize
     ensures { λ n. ⌜ n ≡ wordLength level ⌝ }
 {
     if level == 4 { 6 } else { 4 }
 }
 
 // What authentication adds to the number received.
-pub(crate) fn added_number(level: u32) -> u32
+pub fn added_number(level: u32) -> u32
     ensures { λ n. ⌜ n ≡ added level ⌝ }
 {
     if level == 4 { 1 } else { 2 }
 }
 
 // The level's check word of two runs, one after the other. The check and the writers have it from here; neither lays the runs end to end.
-pub(crate) fn word_of(level: u32, first: &[u8], second: &[u8]) -> u64
+pub fn word_of(level: u32, first: &[u8], second: &[u8]) -> u64
     ensures { λ w. ⌜ w ≡ checkWord level (now (first .entry)) (now (second .entry)) ⌝ }
 {
     if level == 4 {

@@ -1,21 +1,27 @@
-// What stands on the wire at levels 4 and 2: the seven telegrams of SUBSET-057 5.2, their writers, and the check of a received one. No phase, no time, no
-// table. The definitions behind the contracts are in specs/, one file for each section of the paper.
-mod check_telegram;
+// What stands on the wire at levels 4 and 2: the seven telegrams of SUBSET-057 5.2, with their levels, commands, layouts and fields. No phase, no time, no
+// table. The definitions are in specs/, one file for each section of the paper: also those of the writers and of the check, whose code is in the crates
+// writers and checking.
 mod commands;
 mod ends;
 mod fields;
 mod layout;
 mod levels;
-mod numbers;
 mod parts;
-mod put;
 mod values;
-mod write;
 
-pub use check_telegram::answer_number;
-pub use check_telegram::checked;
+pub use commands::ACKNOWLEDGEMENT;
+pub use commands::AUTHENTICATION;
+pub use commands::CONFIRM;
+pub use commands::DISCONNECT;
+pub use commands::IDLE;
+pub use commands::REQUEST;
+pub use commands::is_data;
+pub use commands::is_known;
+pub use commands::kind_of;
 pub use ends::HIGHEST_ADDRESS;
 pub use ends::in_range;
+pub use ends::receiving_bytes;
+pub use ends::sending_bytes;
 pub use fields::authentication_number;
 pub use fields::command_low;
 pub use fields::disconnect_reason;
@@ -26,21 +32,20 @@ pub use fields::random_number;
 pub use fields::version_x;
 pub use fields::version_y;
 pub use layout::LONGEST;
+pub use layout::length_suits;
+pub use layout::most_net;
 pub use layout::on_bus;
+pub use levels::added_number;
+pub use levels::level_of;
+pub use levels::top_bits;
+pub use levels::word_length;
+pub use levels::word_of;
 pub use parts::net_data;
 pub use parts::net_part;
+pub use values::good_dual_bus;
 pub use values::good_idle;
-pub use write::authentication_of;
-pub use write::connect_allowed;
-pub use write::data_allowed;
-pub use write::disconnect_allowed;
-pub use write::write_acknowledgement;
-pub use write::write_authentication;
-pub use write::write_confirm;
-pub use write::write_data;
-pub use write::write_disconnect;
-pub use write::write_idle;
-pub use write::write_request;
+pub use values::good_type;
+pub use values::listed_reason;
 
 // One end of a connection, by the numbers that its writers and its check take from the caller and never from a frame.
 pub struct End {

@@ -13,14 +13,14 @@ pub fn good_idle(time: u32) -> bool
 }
 
 // Whether a disconnect's type is 0, final, or 1, not final.
-pub(crate) fn good_type(kind: u32) -> bool
+pub fn good_type(kind: u32) -> bool
     ensures { λ b. ⌜ b ≡ goodType kind ⌝ }
 {
     kind <= 1
 }
 
 // Whether 5.2.5.9 lists a disconnect's reason.
-pub(crate) fn listed_reason(reason: u32) -> bool
+pub fn listed_reason(reason: u32) -> bool
     ensures { λ b. ⌜ b ≡ listedReason reason ⌝ }
 {
     if reason <= 0x07 {
@@ -33,7 +33,7 @@ pub(crate) fn listed_reason(reason: u32) -> bool
 }
 
 // Whether a dual bus byte is one that has a meaning.
-pub(crate) fn good_dual_bus(bus: u32) -> bool
+pub fn good_dual_bus(bus: u32) -> bool
     ensures { λ b. ⌜ b ≡ goodDualBus bus ⌝ }
 {
     bus <= 1

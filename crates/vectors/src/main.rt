@@ -122,7 +122,7 @@ fn telegram_line(clause: &[u8], written: Written, out: &[u8], receiver: End, exp
         return;
     }
     let sent = &out[..length];
-    let found = telegram::answer_number(telegram::checked(receiver, expected, sent));
+    let found = checking::answer_number(checking::checked(receiver, expected, sent));
     io::write_all(STDOUT_FILENO, clause);
     bytes(sent);
     io::write_all(STDOUT_FILENO, b" check ");
@@ -133,7 +133,7 @@ fn telegram_line(clause: &[u8], written: Written, out: &[u8], receiver: End, exp
 // 5.3.1.7 as whole telegrams, both ways; and the idle of 5.3.1.8, which is printed with length 08h, as its writer writes it, with 06h.
 fn telegrams() {
     let mut out = [0u8; 244];
-    let there = telegram::write_authentication(&mut out, node_8(4, 3), 0x0123_4568, 0x89AB_CDEF);
+    let there = writers::write_authentication(&mut out, node_8(4, 3), 0x0123_4568, 0x89AB_CDEF);
     telegram_line(
         b"5.3.1.7    authentication telegram        ",
         there,
@@ -141,7 +141,7 @@ fn telegrams() {
         node_1(4, 3),
         0x0123_4568,
     );
-    let back = telegram::write_acknowledgement(&mut out, node_1(4, 3), 0x89AB_CDF0, 0x0123_4567);
+    let back = writers::write_acknowledgement(&mut out, node_1(4, 3), 0x89AB_CDF0, 0x0123_4567);
     telegram_line(
         b"5.3.1.7    its acknowledgement            ",
         back,
@@ -149,7 +149,7 @@ fn telegrams() {
         node_8(4, 3),
         0x89AB_CDF0,
     );
-    let idle = telegram::write_idle(&mut out, node_8(2, 9), 0x6034_4931);
+    let idle = writers::write_idle(&mut out, node_8(2, 9), 0x6034_4931);
     telegram_line(
         b"5.3.1.8    idle telegram, length 06h      ",
         idle,
