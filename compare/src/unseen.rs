@@ -30,11 +30,16 @@ impl Independent {
         let whole = (word(self.generator, &difference), difference);
         self.kept
             .iter()
-            .fold(whole, |(word, difference), (other, bits)| match word & 1 << other.ilog2() {
+            .fold(whole, |(word, difference), (other, bits)| match word & highest_bit(*other) {
                 0 => (word, difference),
                 _ => (word ^ other, difference.iter().zip(bits).map(|(a, b)| a ^ b).collect()),
             })
     }
+}
+
+/// The highest bit of a number that is not 0.
+fn highest_bit(number: u64) -> u64 {
+    1 << (63 - number.leading_zeros())
 }
 
 /// The single bits of these bytes in strings of this length.
