@@ -1,7 +1,7 @@
 -- Two results that meet a promise are equal: a promise says what each part equals, and two things that equal a third are equal.
 -- Assumes nothing.
 use mathlib.Core.Path.{_≡_, sym, _∙_}
-use Rattle.demands.specs.Unique.{Rows48, Rows32, Checkword, Telegram, Link, Firmware, Node, Clock, Uniqueness}
+use Rattle.demands.specs.Unique.{Ground, Rows48, Rows32, Checkword, Telegram, Link, Firmware, Node, Clock, Uniqueness}
 
 -- A promise that is one equation, two, three.
 unique : {A : Type 0} {x : A} (r s : A) → r ≡ x → s ≡ x → r ≡ s
@@ -13,6 +13,9 @@ unique₂ r s a b p q = (unique r s (p .0) (q .0), unique a b (p .1) (q .1))
 unique₃ : {A B C : Type 0} {x : A} {y : B} {z : C} (r s : A) (t u : B) (a b : C)
     → (r ≡ x) × ((t ≡ y) × (a ≡ z)) → (s ≡ x) × ((u ≡ y) × (b ≡ z)) → (r ≡ s) × ((t ≡ u) × (a ≡ b))
 unique₃ r s t u a b p q = (unique r s (p .0) (q .0), unique₂ t u a b (p .1) (q .1))
+
+ground : Ground
+ground = record { byte = λ t at. unique; «number_at1» = λ t at. unique; «number_at2» = λ t at. unique; «number_at4» = λ t at. unique }
 
 rows48 : Rows48
 rows48 = record { low = λ v. unique; high = λ y v. unique }
@@ -131,4 +134,4 @@ clock =
     }
 
 pub uniqueness : Uniqueness
-uniqueness = record { rows48 = rows48; rows32 = rows32; checkword = checkword; telegram = telegram; link = link; firmware = firmware; node = node; clock = clock }
+uniqueness = record { ground = ground; rows48 = rows48; rows32 = rows32; checkword = checkword; telegram = telegram; link = link; firmware = firmware; node = node; clock = clock }

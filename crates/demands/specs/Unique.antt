@@ -8,6 +8,8 @@ use mathlib.Core.Bool.{Bool}
 use mathlib.Core.List.{List, _++_}
 use Prim.Native.Nat.{ℕ}
 use lib.Bits.{bitXor}
+use lib.ListN.{getD}
+use Rattle.ground.specs.Numbers.{numberAt}
 use Rattle.digits.specs.Digits.{picked}
 use Rattle.rows48.specs.Rows as rows48
 use Rattle.rows32.specs.Rows as rows32
@@ -76,6 +78,14 @@ Unique₂ {A} {B} P = (r s : A) (a b : B) → P r a → P s b → (r ≡ s) × (
 -- The same of a result, a table and a buffer that were lent.
 abbrev pub Unique₃ : {A B C : Type 0} → (A → B → C → Type 0) → Type 0
 Unique₃ {A} {B} {C} P = (r s : A) (t u : B) (a b : C) → P r t a → P s u b → (r ≡ s) × ((t ≡ u) × (a ≡ b))
+
+-- The public functions of `ground`.
+pub record Ground : Type 0 where
+  -- src/numbers.rt: a byte, and numbers of several
+  pub byte : (t : List ℕ) (at : ℕ) → Unique (λ (x : ℕ). x ≡ getD t at 0)
+  pub «number_at1» : (t : List ℕ) (at : ℕ) → Unique (λ (x : ℕ). x ≡ numberAt 1 at t)
+  pub «number_at2» : (t : List ℕ) (at : ℕ) → Unique (λ (x : ℕ). x ≡ numberAt 2 at t)
+  pub «number_at4» : (t : List ℕ) (at : ℕ) → Unique (λ (x : ℕ). x ≡ numberAt 4 at t)
 
 -- The public functions of `rows48` and `rows32`, which only `checkword` calls.
 pub record Rows48 : Type 0 where
@@ -334,6 +344,7 @@ pub record Clock : Type 0 where
 
 -- Every public function of the library.
 pub record Uniqueness : Type 0 where
+  pub ground : Ground
   pub rows48 : Rows48
   pub rows32 : Rows32
   pub checkword : Checkword
