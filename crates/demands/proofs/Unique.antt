@@ -1,7 +1,7 @@
 -- Two results that meet a promise are equal: a promise says what each part equals, and two things that equal a third are equal.
 -- Assumes nothing.
 use mathlib.Core.Path.{_≡_, sym, _∙_}
-use Rattle.demands.specs.Unique.{Ground, Rows48, Rows32, Checkword, Telegram, Link, Firmware, Node, Clock, Uniqueness}
+use Rattle.demands.specs.Unique.{Ground, Rows48, Rows32, Checkword, Telegram, Link, Firmware, Node, Clock, «Clock_c», Uniqueness}
 
 -- A promise that is one equation, two, three.
 unique : {A : Type 0} {x : A} (r s : A) → r ≡ x → s ≡ x → r ≡ s
@@ -126,6 +126,11 @@ clock =
       heard = λ c message local. unique;
       factor = λ c local. unique;
       «reference_time» = λ c local. unique;
+    }
+
+clock-c : «Clock_c»
+clock-c =
+    record {
       «uj_clock_new» = λ none. unique;
       «uj_clock_read» = λ bytes. unique;
       «uj_clock_message» = λ clock message local. unique₂;
@@ -134,4 +139,4 @@ clock =
     }
 
 pub uniqueness : Uniqueness
-uniqueness = record { ground = ground; rows48 = rows48; rows32 = rows32; checkword = checkword; telegram = telegram; link = link; firmware = firmware; node = node; clock = clock }
+uniqueness = record { ground = ground; rows48 = rows48; rows32 = rows32; checkword = checkword; telegram = telegram; link = link; firmware = firmware; node = node; clock = clock; «clock_c» = clock-c }

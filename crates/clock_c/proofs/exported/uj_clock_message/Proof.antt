@@ -1,4 +1,4 @@
--- `clock::exported::uj_clock_message` meets its contract: a walk of its MIR. The borrow is opened, the clock is copied out, the call gives the new one, and the borrow is closed at it.
+-- `clock_c::exported::uj_clock_message` meets its contract: a walk of its MIR. The borrow is opened, the clock is copied out, the call gives the new one, and the borrow is closed at it.
 -- Assumes nothing.
 use mathlib.Core.Path.{_≡_, refl}
 use Prim.Native.Nat.{ℕ, _<_, _^_}
@@ -37,29 +37,29 @@ use denote.Triple.Call.{calls-at}
 use denote.Triple.Clauses.{ensured, lasts}
 use denote.Triple.Walked.{says, Stays, stay-dropped, gave-ref, walkOf, AllGo, goes-dropped, goes-gave-ref, Walks, ends-at, walked, walk-meets}
 use denote.Exit.{yes}
 use Rattle.clock.specs.declared.Message.{Message}
 use Rattle.clock.specs.declared.LocalTime.{LocalTime}
 use Rattle.clock.specs.declared.Clock.{Clock}
 use Rattle.clock.specs.declared.Step.{Step}
 use Rattle.clock.specs.Updates.{heardBy}
-use Rattle.clock.proofs.Lent as lent
-use Rattle.clock.proofs.Walk.{clears}
+use Rattle.clock_c.proofs.Lent as lent
+use Rattle.ground.proofs.Walk.{clears}
 use Rattle.clock.proofs.Clock as K
 use Rattle.clock.proofs.Clock.Laws as K′
 use Rattle.clock.proofs.Step as S
 use Rattle.clock.proofs.Step.Laws as S′
 use Rattle.clock.proofs.Message as T
 use Rattle.clock.proofs.Message.Laws as T′
 use Rattle.clock.proofs.LocalTime as U
 use Rattle.clock.proofs.LocalTime.Laws as U′
-use Rattle.clock.proofs.updates.heard as g
-use Rattle.clock.proofs.updates.heard.Symbol as g-def
-use Rattle.clock.proofs.updates.heard.Symbol.{name as #g}
-use Rattle.clock.proofs.updates.heard.Met as g-thm
-use Rattle.clock.proofs.exported.uj_clock_message.Key.{name as #f}
-use Rattle.clock.proofs.exported.uj_clock_message as f
-use Rattle.clock.proofs.exported.uj_clock_message.Statement as stated
-use Rattle.clock.proofs.exported.uj_clock_message.Code as code
+use Rattle.clock.proofs.heard as g
+use Rattle.clock.proofs.heard.Symbol as g-def
+use Rattle.clock.proofs.heard.Symbol.{name as #g}
+use Rattle.clock.proofs.heard.Met as g-thm
+use Rattle.clock_c.proofs.exported.uj_clock_message.Key.{name as #f}
+use Rattle.clock_c.proofs.exported.uj_clock_message as f
+use Rattle.clock_c.proofs.exported.uj_clock_message.Statement as stated
+use Rattle.clock_c.proofs.exported.uj_clock_message.Code as code
 
 abbrev R : RattleType
 R = K.the-row
@@ -170,4 +170,4 @@ uj-clock-message-spec 𝓤 H 𝓜 𝓖 𝓡 =
     entered 𝓤 H (tripleOf 𝓤 H (𝓖 .A) f.signature (f.spec 𝓤 H (𝓖 .A) (𝓜 .mem) (𝓡 .run)))
     (tables 𝓤 H 𝓜 𝓡 code.env .C) (tables 𝓤 H 𝓜 𝓡 code.env .Λ) #f code.function (code.unfolded 𝓤 H 𝓜 𝓡)
     (f-meets 𝓤 H (𝓖 .A) (givenOf 𝓤 H 𝓜 𝓖) (𝓜 .mem) (𝓡 .run) (tablesOf 𝓤 H 𝓜 (tables 𝓤 H 𝓜 𝓡 code.env))
-    (cited 𝓤 H (Callee 𝓤 H (𝓖 .A) (𝓜 .mem) (𝓡 .run)) 𝓜 𝓡 code.env #g g-def.routine code.calls-clock·updates·heard (g-thm.met 𝓤 H 𝓜 𝓖 𝓡)))
+    (cited 𝓤 H (Callee 𝓤 H (𝓖 .A) (𝓜 .mem) (𝓡 .run)) 𝓜 𝓡 code.env #g g-def.routine code.calls-clock·heard (g-thm.met 𝓤 H 𝓜 𝓖 𝓡)))

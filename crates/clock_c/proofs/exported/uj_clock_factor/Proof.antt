@@ -1,4 +1,4 @@
--- `clock::exported::uj_clock_factor` meets its contract: a walk of its MIR. The borrow is looked into, the clock is copied out, the borrow is shut, and the call gives the answer.
+-- `clock_c::exported::uj_clock_factor` meets its contract: a walk of its MIR. The borrow is looked into, the clock is copied out, the borrow is shut, and the call gives the answer.
 -- Assumes nothing.
 use mathlib.Core.Path.{_≡_, refl}
 use Prim.Native.Nat.{ℕ}
@@ -33,26 +33,26 @@ use denote.Triple.Call.{calls-at}
 use denote.Triple.Clauses.{ensured, lasts}
 use denote.Triple.Walked.{says, Stays, stay-dropped, walkOf, AllGo, goes-dropped, Walks, ends-at, walked, walk-meets}
 use denote.Exit.{yes}
 use Rattle.clock.specs.declared.PlainFactor.{PlainFactor}
 use Rattle.clock.specs.declared.LocalTime.{LocalTime}
 use Rattle.clock.specs.declared.Clock.{Clock}
 use Rattle.clock.specs.Asking.{factorAt}
 use Rattle.clock.specs.Plain.{plainFactor}
-use Rattle.clock.proofs.Walk.{clears}
+use Rattle.ground.proofs.Walk.{clears}
 use Rattle.clock.proofs.Clock as K
 use Rattle.clock.proofs.Clock.Laws as K′
 use Rattle.clock.proofs.PlainFactor as F
 use Rattle.clock.proofs.PlainFactor.Laws as F′
 use Rattle.clock.proofs.LocalTime as U
 use Rattle.clock.proofs.LocalTime.Laws as U′
-use Rattle.clock.proofs.exported.plain_factor as g
-use Rattle.clock.proofs.exported.plain_factor.Symbol as g-def
-use Rattle.clock.proofs.exported.plain_factor.Symbol.{name as #g}
-use Rattle.clock.proofs.exported.plain_factor.Met as g-thm
-use Rattle.clock.proofs.exported.uj_clock_factor.Key.{name as #f}
-use Rattle.clock.proofs.exported.uj_clock_factor as f
-use Rattle.clock.proofs.exported.uj_clock_factor.Statement as stated
-use Rattle.clock.proofs.exported.uj_clock_factor.Code as code
+use Rattle.clock_c.proofs.exported.plain_factor as g
+use Rattle.clock_c.proofs.exported.plain_factor.Symbol as g-def
+use Rattle.clock_c.proofs.exported.plain_factor.Symbol.{name as #g}
+use Rattle.clock_c.proofs.exported.plain_factor.Met as g-thm
+use Rattle.clock_c.proofs.exported.uj_clock_factor.Key.{name as #f}
+use Rattle.clock_c.proofs.exported.uj_clock_factor as f
+use Rattle.clock_c.proofs.exported.uj_clock_factor.Statement as stated
+use Rattle.clock_c.proofs.exported.uj_clock_factor.Code as code
 
 abbrev R : RattleType
 R = K.the-row
@@ -137,4 +137,4 @@ uj-clock-factor-spec 𝓤 H 𝓜 𝓖 𝓡 =
     entered 𝓤 H (tripleOf 𝓤 H (𝓖 .A) f.signature (f.spec 𝓤 H (𝓖 .A) (𝓜 .mem) (𝓡 .run)))
     (tables 𝓤 H 𝓜 𝓡 code.env .C) (tables 𝓤 H 𝓜 𝓡 code.env .Λ) #f code.function (code.unfolded 𝓤 H 𝓜 𝓡)
     (f-meets 𝓤 H (𝓖 .A) (givenOf 𝓤 H 𝓜 𝓖) (𝓜 .mem) (𝓡 .run) (tablesOf 𝓤 H 𝓜 (tables 𝓤 H 𝓜 𝓡 code.env))
-    (cited 𝓤 H (Callee 𝓤 H (𝓖 .A) (𝓜 .mem) (𝓡 .run)) 𝓜 𝓡 code.env #g g-def.routine code.calls-clock·exported·plain-factor (g-thm.met 𝓤 H 𝓜 𝓖 𝓡)))
+    (cited 𝓤 H (Callee 𝓤 H (𝓖 .A) (𝓜 .mem) (𝓡 .run)) 𝓜 𝓡 code.env #g g-def.routine code.calls-clock-c·exported·plain-factor (g-thm.met 𝓤 H 𝓜 𝓖 𝓡)))
