@@ -2,11 +2,9 @@ pub mod Averages
 pub mod Cases
 pub mod Circling
 pub mod Facts
-pub mod Lent
 pub mod Losing
 pub mod Moving
 pub mod Rounding
 pub mod Starting
-pub mod Walk
 pub mod Whole
 pub mod Worked

@@ -1,7 +1,7 @@
 -- Two results that meet a promise are equal: a promise says what each part equals, and two things that equal a third are equal.
 -- Assumes nothing.
 use mathlib.Core.Path.{_≡_, sym, _∙_}
-use Rattle.demands.specs.Unique.{Ground, Rows48, Rows32, Checkword, Telegram, Writers, Checking, Link, Link-c, Firmware, Node, Node-c, Clock, Uniqueness}
+use Rattle.demands.specs.Unique.{Ground, Rows48, Rows32, Checkword, Telegram, Writers, Checking, Link, Link-c, Firmware, Node, Node-c, Clock, Clock-c, Uniqueness}
 
 -- A promise that is one equation, two, three.
 unique : {A : Type 0} {x : A} (r s : A) → r ≡ x → s ≡ x → r ≡ s
@@ -169,6 +169,11 @@ clock =
       heard = λ c message local. unique;
       factor = λ c local. unique;
       «reference_time» = λ c local. unique;
+    }
+
+clock-c : Clock-c
+clock-c =
+    record {
       «uj_clock_new» = λ none. unique;
       «uj_clock_read» = λ bytes. unique;
       «uj_clock_message» = λ clock message local. unique₂;
@@ -192,4 +197,5 @@ uniqueness =
       node = node;
       node-c = node-c;
       clock = clock;
+      clock-c = clock-c;
     }

@@ -366,6 +366,9 @@ pub record Clock : Type 0 where
   -- src/asking.rt: the factor and the Reference Time at a moment
   pub factor : (c : Estimator) (local : LocalTime) → Unique (λ (f : FactorAsked). f ≡ factorAt c local)
   pub «reference_time» : (c : Estimator) (local : LocalTime) → Unique (λ (t : TimeAsked). t ≡ timeAt c local)
+
+-- The public functions of `clock_c`.
+pub record Clock-c : Type 0 where
   -- src/exported.rt: the same for C, and the one function that takes the clock where it stands
   pub «uj_clock_new» : (none : Unit {0}) → Unique (λ (c : Estimator). c ≡ newClock)
   pub «uj_clock_read» : (bytes : List ℕ) → Unique (λ (r : PlainReading). r ≡ plainReading (readBy bytes))
@@ -391,3 +394,4 @@ pub record Uniqueness : Type 0 where
   pub node : Node
   pub node-c : Node-c
   pub clock : Clock
+  pub clock-c : Clock-c

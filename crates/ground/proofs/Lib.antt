@@ -1,4 +1,5 @@
 pub mod Frame
+pub mod Lent
 pub mod Meeting
 pub mod Past
 pub mod Walk

@@ -1,21 +1,21 @@
 // The clock for C and for Rattle: the one function that takes it where it stands, and what is asked of it. include/ujamniq.h declares them, for the people who
 // call them.
 ghost use mathlib.Core.Path.{_≡_};
 ghost use Rattle.clock.specs.Clocks.{newClock};
 ghost use Rattle.clock.specs.Updates.{heardBy};
 ghost use Rattle.clock.specs.Asking.{factorAt, timeAt};
 ghost use Rattle.clock.specs.Reading.{readBy};
 ghost use Rattle.clock.specs.Plain.{noMessage, plainReading, plainFactor, plainTime};
-use crate::Clock;
-use crate::FactorAsked;
-use crate::LocalTime;
-use crate::Message;
-use crate::PlainFactor;
-use crate::PlainReading;
-use crate::PlainTime;
-use crate::Reading;
-use crate::RefTime;
-use crate::TimeAsked;
+use clock::Clock;
+use clock::FactorAsked;
+use clock::LocalTime;
+use clock::Message;
+use clock::PlainFactor;
+use clock::PlainReading;
+use clock::PlainTime;
+use clock::Reading;
+use clock::RefTime;
+use clock::TimeAsked;
 
 // Answers: done, bytes that are no message, and fewer than sixteen pairs.
 const DONE: u32 = 0;
@@ -43,7 +43,7 @@ fn no_message(answer: u32) -> PlainReading
 fn plain_factor(c: Clock, local: LocalTime) -> PlainFactor
     ensures { λ p. ⌜ p ≡ plainFactor (factorAt c local) ⌝ }
 {
-    let FactorAsked::Known(f) = crate::asking::factor(c, local) else {
+    let FactorAsked::Known(f) = clock::factor(c, local) else {
         return PlainFactor {
             answer: TOO_FEW_PAIRS,
             factor: 0,
@@ -59,7 +59,7 @@ fn plain_factor(c: Clock, local: LocalTime) -> PlainFactor
 fn plain_time(c: Clock, local: LocalTime) -> PlainTime
     ensures { λ p. ⌜ p ≡ plainTime (timeAt c local) ⌝ }
 {
-    let TimeAsked::At(t) = crate::asking::reference_time(c, local) else {
+    let TimeAsked::At(t) = clock::reference_time(c, local) else {
         return PlainTime {
             answer: TOO_FEW_PAIRS,
             time: RefTime(0),
@@ -76,7 +76,7 @@ fn plain_time(c: Clock, local: LocalTime) -> PlainTime
 pub extern "C" fn uj_clock_new() -> Clock
     ensures { λ c. ⌜ c ≡ newClock ⌝ }
 {
-    crate::states::new_clock()
+    clock::new_clock()
 }
 
 // A message from its bytes.
@@ -84,7 +84,7 @@ pub extern "C" fn uj_clock_new() -> Clock
 pub extern "C" fn uj_clock_read(bytes: &[u8]) -> PlainReading
     ensures { λ r. ⌜ r ≡ plainReading (readBy (now (bytes .entry))) ⌝ }
 {
-    match crate::layout::read_message(bytes) {
+    match clock::read_message(bytes) {
         Reading::Good(message) => PlainReading {
             answer: DONE,
             message,
@@ -99,7 +99,7 @@ pub extern "C" fn uj_clock_read(bytes: &[u8]) -> PlainReading
 pub extern "C" fn uj_clock_message(clock: &mut Clock, message: Message, local: LocalTime) -> u32
     ensures { λ n. ⌜ (n ≡ heardBy (now (clock .entry)) message local .event) × (now (clock .exit) ≡ heardBy (now (clock .entry)) message local .clock) ⌝ }
 {
-    let h = crate::updates::heard(*clock, message, local);
+    let h = clock::heard(*clock, message, local);
     *clock = h.clock;
     h.event
 }

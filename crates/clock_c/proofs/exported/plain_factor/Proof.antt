@@ -1,10 +1,10 @@
--- `clock::exported::plain_factor` meets its contract: by the answer.
+-- `clock_c::exported::plain_factor` meets its contract: by the answer.
 -- Assumes nothing.
 use borrow.Author.Needs.{needs}
 use Rattle.clock.specs.Plain.{plainFactor}
 use Rattle.clock.proofs.Cases.{answered}
-use Rattle.clock.proofs.exported.plain_factor.Statement.{statement}
-use Rattle.clock.proofs.exported.plain_factor.Tie as tie
+use Rattle.clock_c.proofs.exported.plain_factor.Statement.{statement}
+use Rattle.clock_c.proofs.exported.plain_factor.Tie as tie
 
 factor-requires : tie.Need-factor-requires
 factor-requires c κs = search needs

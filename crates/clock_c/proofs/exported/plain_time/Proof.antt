@@ -1,10 +1,10 @@
--- `clock::exported::plain_time` meets its contract: by the answer.
+-- `clock_c::exported::plain_time` meets its contract: by the answer.
 -- Assumes nothing.
 use borrow.Author.Needs.{needs}
 use Rattle.clock.specs.Plain.{plainTime}
 use Rattle.clock.proofs.Cases.{answered}
-use Rattle.clock.proofs.exported.plain_time.Statement.{statement}
-use Rattle.clock.proofs.exported.plain_time.Tie as tie
+use Rattle.clock_c.proofs.exported.plain_time.Statement.{statement}
+use Rattle.clock_c.proofs.exported.plain_time.Tie as tie
 
 reference-time-requires : tie.Need-reference-time-requires
 reference-time-requires c κs = search needs

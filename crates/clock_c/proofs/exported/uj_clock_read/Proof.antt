@@ -1,10 +1,10 @@
--- `clock::exported::uj_clock_read` meets its contract: by the reading.
+-- `clock_c::exported::uj_clock_read` meets its contract: by the reading.
 -- Assumes nothing.
 use borrow.Author.Needs.{needs}
 use Rattle.clock.specs.Plain.{plainReading}
 use Rattle.clock.proofs.Cases.{answered}
-use Rattle.clock.proofs.exported.uj_clock_read.Statement.{statement}
-use Rattle.clock.proofs.exported.uj_clock_read.Tie as tie
+use Rattle.clock_c.proofs.exported.uj_clock_read.Statement.{statement}
+use Rattle.clock_c.proofs.exported.uj_clock_read.Tie as tie
 
 read-message-requires : tie.Need-read-message-requires
 read-message-requires c κs = search needs
