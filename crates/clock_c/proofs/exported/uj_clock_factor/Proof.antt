@@ -1,9 +1,9 @@
 -- `clock_c::exported::uj_clock_factor` meets its contract: the walk of the two questions, at the factor.
 -- Assumes nothing.
 use denote.Triple.Spec.{tripleOf}
+use denote.Triple.Table.{cited}
 use Rattle.clock.specs.Asking.{factorAt}
 use Rattle.clock.specs.Plain.{plainFactor}
-use denote.Triple.Table.{cited}
 use Rattle.clock.proofs.PlainFactor as F
 use Rattle.clock.proofs.PlainFactor.Laws as F′
 use Rattle.clock_c.proofs.Asked.{asks-by}

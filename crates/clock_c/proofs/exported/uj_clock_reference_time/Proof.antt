@@ -1,9 +1,9 @@
 -- `clock_c::exported::uj_clock_reference_time` meets its contract: the walk of the two questions, at the Reference Time.
 -- Assumes nothing.
 use denote.Triple.Spec.{tripleOf}
+use denote.Triple.Table.{cited}
 use Rattle.clock.specs.Asking.{timeAt}
 use Rattle.clock.specs.Plain.{plainTime}
-use denote.Triple.Table.{cited}
 use Rattle.clock.proofs.PlainTime as F
 use Rattle.clock.proofs.PlainTime.Laws as F′
 use Rattle.clock_c.proofs.Asked.{asks-by}
