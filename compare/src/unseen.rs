@@ -1,12 +1,13 @@
-//! Differences of strings that their check words don't show. The exclusive-or of words is the word of the exclusive-or, so the words of single bits tell those
-//! of all differences, and what is sought is found by elimination.
+//! Differences of strings that their check words don't show. The exclusive-or of words is the word of the exclusive-or,
+//! so the words of single bits tell those of all differences, and what is sought is found by elimination.
 
 use crate::word::{word, Generator};
 
 /// A difference of two strings, and its word.
 type Difference = (u64, Vec<u8>);
 
-/// Differences whose words no exclusive-or of the others gives. Each word has a highest bit that those behind it don't have.
+/// Differences whose words no exclusive-or of the others gives. Each word has a highest bit that those behind it don't
+/// have.
 struct Independent {
     generator: Generator,
     kept: Vec<Difference>,
@@ -57,7 +58,8 @@ pub fn unseen(generator: Generator, difference: Vec<u8>, free: &[usize]) -> Opti
     Some(changed).filter(|_| word == 0)
 }
 
-/// How many of these differences have independent words. Each one more doubles the number of their exclusive-ors whose word is 0.
+/// How many of these differences have independent words. Each one more doubles the number of their exclusive-ors whose
+/// word is 0.
 pub fn rank(generator: Generator, differences: impl Iterator<Item = Vec<u8>>) -> usize {
     Independent::among(generator, differences).kept.len()
 }
