@@ -1,4 +1,4 @@
--- Where an event's net data lie, by its variant, and the part of the telegram that they are.
+-- Where an event's net data lie, by its variant, and the part of the telegram that they are; an outcome whose event is known.
 -- Assumes nothing.
 use mathlib.Core.Path.{_≡_, refl, ap}
 use mathlib.Core.List.{List, [], _∷_}
@@ -14,7 +14,10 @@ use Rattle.telegram.specs.declared.Part.{Part}
 use Rattle.link.proofs.Event as E
 use Rattle.link.specs.declared.Event.{Event}
 use Rattle.link.specs.declared.Event.the-variants.{Nothing, Opened, Data, Closed}
-use Rattle.node.specs.Plain.{partOf, dataOf}
+use Rattle.link.specs.Plain.{happened}
+use Rattle.node.specs.declared.Outcome.{Outcome}
+use Rattle.node.specs.declared.PlainOutcome.{PlainOutcome}
+use Rattle.node.specs.Plain.{plain, partOf, dataOf}
 
 -- an event that is no data has its net data nowhere
 pub no-data : (e : Event) → OneOf (0 ∷ 1 ∷ 3 ∷ []) (tagOf E.the-type e) → record { start = 0; count = 0 } ≡ partOf e
@@ -25,6 +28,10 @@ no-data (Closed reason last) h = refl
 
 pub part-is : (e f : Event) (p : Part) → e ≡ f → p ≡ partOf f → p ≡ partOf e
 part-is e f p q r = rw q r
+
+pub plain-is : (o : Outcome) (f : Event) (p : PlainOutcome) → o .event ≡ f → p ≡ record { head = o .head; answer = o .answer; happened = happened f } → p ≡ plain o
+unfolding plain
+plain-is o f p q r = rw q r
 
 -- a telegram that doesn't reach so far
 pub none-within : (e : Event) (p : Part) (t : List ℕ) → p ≡ partOf e → length t < p .start + p .count → [] ≡ dataOf e t

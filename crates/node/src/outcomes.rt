@@ -7,6 +7,7 @@ use crate::Outcome;
 use crate::PlainOutcome;
 use link::Answer;
 use link::Event;
+use link::Happened;
 use link::Step;
 use telegram::Part;
 
@@ -73,16 +74,35 @@ pub fn net_data(telegram: &[u8], event: Event) -> &[u8]
     &telegram[start..end]
 }
 
-// The outcome as plain numbers.
+// The outcome as plain numbers, for C: of data, where they lie in the telegram received.
 pub fn plain_outcome(outcome: Outcome) -> PlainOutcome
     ensures { λ p. ⌜ p ≡ plain outcome ⌝ }
 {
     let head = outcome.head;
     let answer = outcome.answer;
     let event = outcome.event;
+    let Event::Data {
+        command,
+        start,
+        count,
+    } = event
+    else {
+        return PlainOutcome {
+            head,
+            answer,
+            happened: link::happened_as(event),
+        };
+    };
     PlainOutcome {
         head,
         answer,
-        happened: link::happened_as(event),
+        happened: Happened {
+            event: 2,
+            command,
+            start,
+            count,
+            reason: 0,
+            last: 0,
+        },
     }
 }
