@@ -272,8 +272,14 @@ uj_record uj_fresh(uint32_t partner, uint32_t partner_sap, uint32_t local_sap, u
  * `named` is 0 where you name no idle time: then 500 is declared, and `idle_time` is not looked at. Any other `named` declares `idle_time`; naming 0
  * is naming one, and no idle telegrams are sent then. */
 
-/* Opens a closed connection: a request goes out. `net` of up to 226 bytes at level 4, 228 at level 2 goes with it. UJ_EVENT_OPENED comes with a later
- * uj_received. */
+/* Opens a closed connection: a request goes out. `net` of up to 226 bytes at level 4, 228 at level 2 goes with it.
+ * UJ_EVENT_OPENED comes with a later uj_received.
+ *
+ * One end opens, by configuration, and the other waits for its request (3.3.1.7, 3.3.1.8: a connection has one master).
+ * Where both open at once, each ignores the other's request, and nothing opens. The end whose wait of 5,000 ms runs out
+ * first closes with 02h; its disconnect is not numbered as the other end expects (unless its random number was
+ * FFFFFFFFh), so that the other closes with 06h, or with 02h where its own wait has run out too. Either may open again,
+ * but that 06h counts as an incorrect telegram: see "Your duty" above. */
 uj_outcome uj_open(uj_record *table, size_t count, uj_head head, uint64_t time, size_t place, uint32_t random, uint32_t named, uint32_t idle_time,
                    const uint8_t *net, size_t net_length, uint8_t *out, size_t out_length);
 

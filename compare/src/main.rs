@@ -1,6 +1,7 @@
 //! Compares the library of proved crates with a second program that is written from the papers. Prints what was compared and how much of it, and fails
 //! where anything differs. With the word `vectors` it runs the published vectors alone, with the word `damage` all cases of damage on the cable alone.
 
+mod both_open;
 mod bus;
 mod bus_run;
 mod case;

@@ -5,12 +5,13 @@ use crate::node_case::Case;
 use crate::tally::Tally;
 use crate::wrong_node::{unchanged, Wrong};
 use crate::wrong_nodes::wrong_nodes;
-use crate::{bus_run, exchanged_cards, node_cases, node_refusals, node_runs};
+use crate::{both_open, bus_run, exchanged_cards, node_cases, node_refusals, node_runs};
 
 /// All comparisons of the node.
 pub fn compare_all(tally: &mut Tally) {
     node_runs::run(tally);
     node_runs::beginnings(tally);
+    both_open::compare(tally);
     exchanged_cards::compare(tally);
     wrong_nodes_are_seen(tally);
     systematic(tally);
