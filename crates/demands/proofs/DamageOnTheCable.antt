@@ -1,16 +1,15 @@
 -- Damage on the cable, put together: it is found in every telegram, and what the receiving node does with what came follows from the row of the transition table for a
 -- telegram that fails the check.
 -- Assumes nothing.
-use mathlib.Core.Path.{_≡_, refl, sym, ap, _∙_}
-use mathlib.Core.Bool.{Bool, true, false}
+use mathlib.Core.Path.{_≡_, refl, sym, ap, subst, _∙_}
+use mathlib.Core.Bool.{Bool, false}
 use mathlib.Core.List.{List, []}
 use mathlib.Core.Logic.{_⊎_, inl, inr}
-use Prim.Native.Nat.{ℕ, zero, suc, _+_, _≤_}
+use Prim.Native.Nat.{ℕ}
 use native.Mathlib.Omega.{arith}
 use lib.ListN.{length, set}
 use lib.Seq.{set-getD}
-use lib.Dec.{eqb}
-use borrow.Author.Tests.{le-leb, le-ltb, ne-eqb}
+use borrow.Author.Tests.{le-leb}
 use Rattle.ground.specs.Choice.{pick}
 use Rattle.telegram.specs.Levels.{wordLength}
 use Rattle.telegram.specs.Commands.{kindOfCommand}
@@ -25,27 +24,26 @@ use Rattle.telegram.specs.declared.Check.{Check}
 use Rattle.telegram.specs.declared.Check.the-variants.{Passes, Failed}
 use Rattle.telegram.proofs.Widths.{width-is}
 use Rattle.link.specs.Records.{endOf}
-use Rattle.link.specs.Table.{Incorrect-rcv-1st}
-use Rattle.link.specs.Times.{gap, waitOver}
-use Rattle.link.specs.Judged.{ruled, expectedNow, runOut, judged}
-use Rattle.link.specs.Steps.{unlessStep, unlessOut, refusedStep, quietly, receivedOf, receivedOut, receivedRefusal}
+use Rattle.link.specs.Judged.{expectedNow}
 use Rattle.link.specs.declared.Record.{Record}
-use Rattle.link.specs.declared.Answer.{Answer}
+use Rattle.link.specs.declared.IdleTime.{IdleTime}
 use Rattle.link.specs.declared.Event.{Event}
 use Rattle.link.specs.declared.Event.the-variants as event
-use Rattle.link.specs.declared.Verdict.the-variants.{Nothing, Close as Closes}
-use Rattle.link.proofs.Facts.{by-the-table}
 use Rattle.node.specs.declared.Head.{Head}
 use Rattle.node.specs.declared.Route.{Route}
 use Rattle.node.specs.Accepted.{nowhere, recordAt}
 use Rattle.node.specs.Matching.{firstMatch}
+use Rattle.node.specs.Calls.{called}
 use Rattle.node.specs.Calls.Call.{Received}
 use Rattle.node.specs.Plain.{dataOf}
-use Rattle.demands.specs.Damage.{Connect, Other-than-connect, Fails, Damage-anywhere-is-found, Same-sort, Damaged-command-is-found, Connect-damage-is-found, Written-damage-is-found, Comes-damaged, Listens, Damage-closes, Damage-closes-both, Damage-is-dropped-when-closed, Damage-on-the-cable}
-use Rattle.demands.specs.Damage.Listens.{set-up, open-here}
+use Rattle.demands.specs.Pairs.{Done, Listens}
+use Rattle.demands.specs.Effects.{Receipt, takes, Passing}
+use Rattle.demands.specs.Demand2.{Is-closed}
+use Rattle.demands.specs.Damage.{Connect, Other-than-connect, Fails, Damage-anywhere-is-found, Same-sort, Damaged-command-is-found, Connect-damage-is-found, Written-damage-is-found, Comes-damaged, Turned-away, Damage-closes, Damage-closes-both, Dropped, Damage-is-dropped-when-closed, Damage-on-the-cable}
 use Rattle.demands.proofs.Carried.{carried}
-use Rattle.demands.proofs.Demand2.{open-in-time, expects, receipt-disconnects, incorrect-closes}
-use Rattle.demands.proofs.OneEnd.{receipt-closes}
+use Rattle.demands.proofs.Effects.{left-by}
+use Rattle.demands.proofs.Demand2.{expects, incorrect-closes}
+use Rattle.demands.proofs.OneEnd.{when-closed, incorrect-closes-here}
 use Rattle.demands.proofs.Demand3.{wrote-passes}
 use Rattle.demands.proofs.Damage.{seen-over-the-width, still-connect, fails, other-seen, somewhere, damage-is-found, damage-is-found-at-4, damage-is-found-at-2}
 use Rattle.demands.proofs.DamagedConnect.{connect-seen}
@@ -131,52 +129,41 @@ comes-failing w h table i t u c =
     let l : ℕ = recordAt table i .level in
     damage-anywhere-is-found (recordAt table i) (h .own) (expectedNow (recordAt table i)) (wordLength l) t u (omega (arith, width-is l)) (c .changed) (c .command) (c .within) (c .passes)
 
--- the row of the table for it
-failing-row : (r : Record) (own time : ℕ) (u : List ℕ) → runOut r time ≡ false → Fails (checkOf (endOf r own) (expectedNow r) u)
-    → judged r own time u ≡ ruled Incorrect-rcv-1st (r .phase)
-failing-row r own time u early f =
-    let at = at-clause (checkOf (endOf r own) (expectedNow r) u) f in by-the-table .failing r own time u (at .0) early (at .1)
-
--- its cells from the confirm awaited to the open connection
-closing-cell : (q : ℕ) → 2 ≤ q → q ≤ 5 → ruled Incorrect-rcv-1st q ≡ Closes 0x06 false
-closing-cell zero low high = absurd (omega arith)
-closing-cell (suc zero) low high = absurd (omega arith)
-closing-cell (suc (suc zero)) low high = refl
-closing-cell (suc (suc (suc zero))) low high = refl
-closing-cell (suc (suc (suc (suc zero)))) low high = refl
-closing-cell (suc (suc (suc (suc (suc zero))))) low high = refl
-closing-cell (suc (suc (suc (suc (suc (suc q)))))) low high = absurd (omega arith)
-
--- a wait that has not run out
-waits-in-time : (r : Record) (time : ℕ) → 2 ≤ r .phase → r .phase ≤ 4 → time ≤ r .«sent_at» + 5000 → runOut r time ≡ false
-unfolding runOut waitOver pick
-waits-in-time r time low high early =
-    rw (ne-eqb (r .phase) 5 (λ e. omega arith), le-leb 2 (r .phase) low, le-leb (r .phase) 4 high) (le-ltb 5000 (gap (r .«sent_at») time) (omega arith))
-
-closing-verdict : (r : Record) (own time : ℕ) (u : List ℕ) → Listens r time → Fails (checkOf (endOf r own) (expectedNow r) u) → judged r own time u ≡ Closes 0x06 false
-closing-verdict r own time u (set-up low high early) f =
-    failing-row r own time u (waits-in-time r time low high early) f ∙ closing-cell (r .phase) low (omega arith)
-closing-verdict r own time u (open-here p early) f =
-    failing-row r own time u (open-in-time r time p early) f ∙ closing-cell (r .phase) (omega arith) (omega arith)
-
 -- a closing hands up nothing
 nothing-of : (e : Event) (u : List ℕ) (reason : ℕ) (last : Bool) → e ≡ event.Closed reason last → dataOf e u ≡ []
 unfolding dataOf pick
 nothing-of e u reason last p = rw (p, le-leb 0 (length u) (omega arith)) refl
 
+-- the receipt of what came, for the record at place i
+module _ (w : Route) (random : ℕ) (idle-time : IdleTime) (t u net : List ℕ) (h : Head) (table : List Record) (i time : ℕ) (d : List ℕ) (c : Comes-damaged w h table i t u) where
+  abbrev x : Receipt
+  x = record { route = w; random = random; idle-time = idle-time; telegram = u; net = net; head = h; table = table; time = time; buffer = d }
+
+  not-passing : Passing x → ⊥
+  not-passing =
+      subst (λ (y : ℕ). checkOf (endOf (recordAt table y) (h .own)) (expectedNow (recordAt table y)) u ≡ Passes → ⊥) (sym (c .place)) (not-passed _ (comes-failing w h table i t u c))
+
+  turned-away : Listens (recordAt table i) time → Done (takes called x) → Turned-away (takes called x) h table d i u
+  turned-away listens done =
+      let closed =
+      subst (λ (y : ℕ). Is-closed (takes called x) h table d y 0x06 false []) (c .place)
+      (incorrect-closes-here x (subst (λ (y : ℕ). Listens (recordAt table y) time) (sym (c .place)) listens) not-passing done) in
+      record { closed = closed; nothing-up = nothing-of _ u 0x06 false (closed .says) }
+
+  dropped : recordAt table i .phase ≡ 1 → Done (takes called x) → Dropped (takes called x) table d
+  dropped phase done =
+      let g = carried (Received w random idle-time u net) h table time d done in
+      let quiet =
+      when-closed .drops x (subst (λ (y : ℕ). recordAt table y .phase ≡ 1) (sym (c .place)) phase) (λ good. not-passing (good .passes)) done in
+      record {
+        says-nothing = quiet .says;
+        writes-nothing = quiet .writes;
+        same-table = g .table ∙ ap (set table (firstMatch w table)) (sym (left-by (Received w random idle-time u net) h table time d g) ∙ quiet .leaves) ∙ set-getD table (firstMatch w table) nowhere;
+        same-buffer = quiet .buffer;
+      }
+
 pub damage-closes : Damage-closes
-damage-closes w random idle-time t u net h table i time d c listens done =
-    let v = closing-verdict (recordAt table i) (h .own) time u listens (comes-failing w h table i t u c) in
-    let place = c .place in
-    let g = carried (Received w random idle-time u net) h table time d done in
-    let closed = receipt-closes h table i w random idle-time u net time d 0x06 false place v done in
-    record {
-      closed = closed;
-      disconnect =
-          ap (λ (y : Answer). y .telegram) (g .answer)
-          ∙ receipt-disconnects h table w random idle-time u net time d 0x06 false (rw place v) g .five;
-      nothing-up = nothing-of _ u 0x06 false (closed .says);
-    }
+damage-closes w random idle-time t u net h table i time d c listens done = turned-away w random idle-time t u net h table i time d c listens done
 
 pub damage-closes-both : Damage-closes-both
 damage-closes-both n i j random idle-time w t u net m link c early arrives =
@@ -184,45 +171,8 @@ damage-closes-both n i j random idle-time w t u net m link c early arrives =
     incorrect-closes n i j random idle-time w u net m link (c .place) early
     (rw (expects r 5 (link .open-to .open-here) (omega arith)) at (not-passed _ (comes-failing w (n .head) (n .table) i t u c))) arrives
 
--- a step of no consequence, refused or not
-quiet-step : (n : ℕ) (r : Record) → (unlessStep n r (quietly r event.Nothing) .«record» ≡ r) × ((unlessStep n r (quietly r event.Nothing) .event ≡ event.Nothing) × (unlessStep n r (quietly r event.Nothing) .answer .telegram ≡ 0))
-unfolding quietly refusedStep pick
-quiet-step n r = by (eqb n 0)
-  where
-    by : (b : Bool) → (pick b (quietly r event.Nothing) (refusedStep n r) .«record» ≡ r) × ((pick b (quietly r event.Nothing) (refusedStep n r) .event ≡ event.Nothing) × (pick b (quietly r event.Nothing) (refusedStep n r) .answer .telegram ≡ 0))
-    by true = (refl, (refl, refl))
-    by false = (refl, (refl, refl))
-
-quiet-out : (n : ℕ) (d : List ℕ) → unlessOut n d d ≡ d
-unfolding pick
-quiet-out n d = by (eqb n 0)
-  where
-    by : (b : Bool) → pick b d d ≡ d
-    by true = refl
-    by false = refl
-
--- on a closed record nothing runs out
-closed-in-time : (r : Record) (time : ℕ) → r .phase ≡ 1 → runOut r time ≡ false
-unfolding runOut pick
-closed-in-time r time p = rw p refl
-
 pub damage-is-dropped-when-closed : Damage-is-dropped-when-closed
-unfolding receivedOf receivedOut
-damage-is-dropped-when-closed w random idle-time t u net h table i time d c phase done =
-    let r = recordAt table (firstMatch w table) in
-    let here : recordAt table (firstMatch w table) ≡ recordAt table i = ap (recordAt table) (c .place) in
-    let v : judged (recordAt table i) (h .own) time u ≡ Nothing =
-    failing-row (recordAt table i) (h .own) time u (closed-in-time (recordAt table i) time phase) (comes-failing w h table i t u c) ∙ ap (ruled Incorrect-rcv-1st) phase in
-    let v′ : judged r (h .own) time u ≡ Nothing = rw here v in
-    let g = carried (Received w random idle-time u net) h table time d done in
-    let quiet = quiet-step (receivedRefusal r (h .own) idle-time u net d) r in
-    record {
-      says-nothing = g .event ∙ rw v′ (quiet .1 .0);
-      writes-nothing = ap (λ (y : Answer). y .telegram) (g .answer) ∙ rw v′ (quiet .1 .1);
-      same-table =
-          g .table ∙ ap (set table (firstMatch w table)) (rw v′ (quiet .0)) ∙ set-getD table (firstMatch w table) nowhere;
-      same-buffer = g .out ∙ rw v′ (quiet-out (receivedRefusal r (h .own) idle-time u net d) d);
-    }
+damage-is-dropped-when-closed w random idle-time t u net h table i time d c phase done = dropped w random idle-time t u net h table i time d c phase done
 
 pub damage-on-the-cable : Damage-on-the-cable
 damage-on-the-cable =

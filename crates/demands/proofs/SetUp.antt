@@ -1,125 +1,131 @@
 -- Demand 2, set-up: telegram by telegram. Each passes the check of the end that awaits it, and its version or authentication number is the one asked for; the
--- numbers on both sides are those after the two random numbers.
+-- numbers on both sides are those after the two random numbers. What the nodes do between leaves the two records as they are.
 -- Assumes nothing.
 use mathlib.Core.Path.{_≡_, refl, sym, ap, subst, _∙_}
 use mathlib.Core.Bool.{true, false}
 use mathlib.Core.List.{List, [], _∷_}
-use Prim.Native.Nat.{ℕ, _^_, _<_}
+use Prim.Native.Nat.{ℕ, _+_, _^_, _≤_, _<_}
 use native.Mathlib.Omega.{arith}
-use lib.ListN.{length, set, take, getD}
-use lib.Seq.{getD-set-same}
-use lib.Dec.{eqb}
-use borrow.Author.Tests.{eq-eqb, le-ltb}
+use lib.ListN.{length, getD}
+use lib.Dec.{eqb, lit≤}
+use borrow.Author.Tests.{eq-eqb, ne-eqb, le-leb, le-ltb}
 use Rattle.ground.specs.Choice.{pick, all}
 use Rattle.telegram.specs.Ends.{mirrored}
 use Rattle.telegram.specs.Layout.{values}
-use Rattle.telegram.specs.Fields.{randomOf, idleTimeOf, authenticationOf}
-use Rattle.telegram.specs.Commands.{kindOfCommand}
-use Rattle.telegram.specs.Telegrams.{versionAndBus, authenticationNumber, request, confirm, authentication, acknowledgement}
+use Rattle.telegram.specs.Fields.{randomOf, authenticationOf}
+use Rattle.telegram.specs.Telegrams.{versionAndBus, authenticationNumber}
 use Rattle.telegram.specs.Writers.Outcome.{wrote}
-use Rattle.telegram.specs.Writers.{refusal, connectAllowed, unless, writesRequest, writesConfirm, writesAuthentication, writesAcknowledgement}
-use Rattle.telegram.specs.Check.{commandOf, checkOf}
+use Rattle.telegram.specs.Writers.{answerOf, unless, refusal, connectAllowed, writesRequest, writesConfirm, writesAuthentication, writesAcknowledgement}
 use Rattle.telegram.specs.Facts.{Taken}
 use Rattle.telegram.specs.declared.End.{End}
 use Rattle.telegram.specs.declared.Kind.{Kind}
 use Rattle.telegram.specs.declared.Kind.the-variants as kind
-use Rattle.telegram.specs.declared.Check.the-variants.{Passes}
+use Rattle.telegram.proofs.Apart.{passed}
 use Rattle.telegram.proofs.Taken.{request-taken, confirm-taken, authentication-taken, acknowledgement-taken}
 use Rattle.link.specs.Records.{endOf, become}
 use Rattle.link.specs.Times.{gap, waitOver}
 use Rattle.link.specs.Judged.{rowOf, ruled, narrowed, goodVersion, goodNumber, back, expectedNow, runOut, judged}
-use Rattle.link.specs.Steps.{next, taken, quietly, actOf, actOut, declaredBy, openRefusal, openOf, openOut, receivedRefusal, receivedOf, receivedOut}
+use Rattle.link.specs.Steps.{next, writingStep, actOf, declaredBy, openRefusal, openOf}
 use Rattle.link.specs.declared.Record.{Record}
-use Rattle.link.specs.declared.Step.{Step}
 use Rattle.link.specs.declared.Event.{Event}
 use Rattle.link.specs.declared.Event.the-variants as event
 use Rattle.link.specs.declared.Verdict.{Verdict}
-use Rattle.link.specs.declared.Verdict.the-variants.{Nothing, Confirm, Authenticate, Acknowledge, Open as Opens}
+use Rattle.link.specs.declared.Verdict.the-variants.{Confirm, Authenticate, Acknowledge, Open as Opens}
 use Rattle.link.proofs.Facts.{by-the-table}
-use Rattle.link.proofs.Answers.{answers}
 use Rattle.node.specs.declared.Head.{Head}
-use Rattle.node.specs.Heads.{at}
-use Rattle.node.specs.Accepted.{nowhere, recordAt}
-use Rattle.node.specs.Matching.{firstMatch}
-use Rattle.node.specs.Calls.{Left}
+use Rattle.node.specs.Accepted.{recordAt, accepted}
+use Rattle.node.specs.Calls.{Call, Left, called}
 use Rattle.node.specs.Calls.Call.{Open, Received}
-use Rattle.node.proofs.Facts.{by-route, others-unchanged}
-use Rattle.demands.specs.Pairs.{Mirror, telegramOf, routeFrom, Done}
-use Rattle.demands.specs.SetUp.{Given, Parties, here, there, takes, asks, confirms, authenticates, acknowledges, Sets-up, set-up, Demand-2-set-up, Demand-2-from-the-request}
-use Rattle.demands.proofs.Carried.{Carried, carried}
-use Rattle.demands.proofs.Steps.{Writes, writes, taken-in}
-use Rattle.demands.proofs.Demand2.{watching, for-mirror}
-use Rattle.demands.proofs.EveryStep.{demand-2-over-every-step}
+use Rattle.node.proofs.Facts.{others-unchanged, stays-accepted}
+use Rattle.demands.specs.Pairs.{Mirror, telegramOf, Done, Made, made, headAfter, tableAfter, All-nothing-to}
+use Rattle.demands.specs.Effects.{Does, asking, Receipt, takes}
+use Rattle.demands.specs.SetUp.{Given, Parties, here, there, arriving, headThen, tableThen, asks, confirms, authenticates, acknowledges, opens, Undisturbed, set-up, Fits, Demand-2-set-up, Set-up-is-done, Demand-2-from-the-request}
+use Rattle.demands.proofs.Carried.{carried, done-by}
+use Rattle.demands.proofs.Effects.{told, effectOf, receipt-at, open-does, call-wrote, receipt-wrote}
+use Rattle.demands.proofs.Demand2.{own-kept, mirror-place, received-done, watching}
+use Rattle.demands.proofs.EveryStep.{kept, demand-2-over-every-step}
 
--- What a node is left with by a call for its record at a place: the record, the event, the telegram.
-record Leaves (l : Left) (j own : ℕ) (q : Record) (e : Event) (x : List ℕ) : Type 0 where
-  record-is : recordAt (l .table) j ≡ q
-  event-is : l .outcome .event ≡ e
-  telegram-is : telegramOf l ≡ x
-  own-is : l .outcome .head .own ≡ own
-  there-is : j < length (l .table)
+-- What a node has of the connection: its address, and the record at a place.
+record Holds (h : Head) (t : List Record) (i own : ℕ) (r : Record) : Type 0 where
+  own-is : h .own ≡ own
+  record-is : recordAt t i ≡ r
+  there-is : i < length t
 
--- A taken telegram, whatever the phase: the verdict's act on the record y of the node b.
-module _ (l : Left) (a : ℕ) (r : Record) (k : Head) (u : List Record) (g : Given) (j : ℕ) where
-  abbrev x : List ℕ
-  x = telegramOf l
+-- after a call that was done
+left-with : (c : Call) (h : Head) (t : List Record) (time : ℕ) (d : List ℕ) (i own : ℕ) (r : Record) → h .own ≡ own → i < length t → recordAt (called c h t time d .table) i ≡ r
+    → Done (called c h t time d) → Holds (called c h t time d .outcome .head) (called c h t time d .table) i own r
+left-with c h t time d i own r o l e done =
+    record { own-is = own-kept c h t time d done ∙ o; record-is = e; there-is = rw (others-unchanged .count c h t time d) l }
 
-  abbrev act : Record → ℕ → Verdict → Step
-  act y b v = actOf v y b (g .time) (g .random) (declaredBy (g .idle-time)) x (g .net) (g .out)
+-- calls that are nothing to it leave it so, and the table accepted
+meanwhile : (h : Head) (t : List Record) (i own : ℕ) (r : Record) (ms : List Made) → Holds h t i own r → All-nothing-to called h t i ms
+    → Holds (headAfter called h t ms) (tableAfter called h t ms) i own r
+meanwhile h t i own r [] x z = x
+meanwhile h t i own r (m ∷ ms) x (y, ys) =
+    let k = kept h t i m y in
+    meanwhile (made called h t m .outcome .head) (made called h t m .table) i own r ms
+    (record {
+      own-is = k .own ∙ x .own-is;
+      record-is = k .left ∙ x .record-is;
+      there-is = rw (others-unchanged .count (m .call) h t (m .time) (m .buffer)) (x .there-is);
+    }) ys
 
-  abbrev outOf : Record → ℕ → Verdict → List ℕ
-  outOf y b v = actOut v y b (g .random) (declaredBy (g .idle-time)) x (g .net) (g .out)
+good-after : (h : Head) (t : List Record) (ms : List Made) → accepted h t ≡ true → accepted (headAfter called h t ms) (tableAfter called h t ms) ≡ true
+good-after h t [] good = good
+good-after h t (m ∷ ms) good = good-after (made called h t m .outcome .head) (made called h t m .table) ms (stays-accepted (m .call) h t (m .time) (m .buffer) good)
 
-  record Acts (y : Record) (b : ℕ) (v : Verdict) : Type 0 where
-    number : act y b v .answer .number ≡ 0
-    leaves : Leaves (takes l a r k u g) j b (act y b v .«record») (act y b v .event) (take (act y b v .answer .length) (outOf y b v))
+-- A telegram taken by a node with the record q at place j, by a verdict: what it does, what the node has then, and that the verdict's writer wrote.
+record Taking (x : Receipt) (j b : ℕ) (q : Record) (v : Verdict) : Type 0 where
+  does : Does (takes called x) (x .buffer) j (effectOf v q b (x .time) (x .random) (declaredBy (x .idle-time)) (x .telegram) (x .net))
+  holds : Holds (takes called x .outcome .head) (takes called x .table) j b (effectOf v q b (x .time) (x .random) (declaredBy (x .idle-time)) (x .telegram) (x .net) .after)
+  written : (n : ℕ) (y : List ℕ) (q′ : Record) (kind : ℕ) (e : Event)
+      → actOf v q b (x .time) (x .random) (declaredBy (x .idle-time)) (x .telegram) (x .net) (x .buffer) ≡ writingStep (answerOf (unless n y)) q q′ kind e → unless n y ≡ wrote y
 
-  abbrev q : Record
-  q = recordAt u j
+module _ (l : Left) (a : ℕ) (r : Record) (k : Head) (u : List Record) (g : Given) (j b : ℕ) (q : Record) (y : Holds k u j b q) (m : Mirror a r b q) where
+  mirrored-there : Mirror a r (k .own) (recordAt u j)
+  mirrored-there = rw (y .own-is, y .record-is) m
 
-  abbrev stepped : Record → Step
-  stepped y = receivedOf y (k .own) (g .time) (g .random) (g .idle-time) x (g .net) (g .out)
+  is-done : {vs net : List ℕ} {n : ℕ} {v : Kind} → accepted k u ≡ true → Taken (endOf r a) n (telegramOf l) v vs net → (q .phase ≡ 6 → ⊥) → Fits (k .latest) (r .level) g
+      → Done (takes called (arriving l a r k u g))
+  unfolding endOf
+  is-done {n = n} good x live f =
+      let level : recordAt u j .level ≡ r .level = ap (λ (e : End). e .level) mirrored-there in
+      received-done a r k u j (g .time) (g .random) (g .idle-time) (telegramOf l) (g .net) (g .out) good (f .room) (f .timely) (passed (mirrored (endOf r a)) n (telegramOf l) (x .passes) .on-bus) mirrored-there (y .there-is)
+      (rw (y .record-is) live) (rw level (f .allowed))
 
-  abbrev stepped-out : Record → List ℕ
-  stepped-out y = receivedOut y (k .own) (g .time) (g .random) (g .idle-time) x (g .net) (g .out)
-
-  acts : (v : Verdict) → Mirror a r (k .own) q → j < length u → Done (takes l a r k u g) → judged q (k .own) (g .time) x ≡ v → Acts q (k .own) v
-  unfolding at receivedOut pick
-  acts v m h done f =
-      let c = carried (Received (routeFrom a r) (g .random) (g .idle-time) x (g .net)) k u (g .time) (g .out) done in
-      let p : firstMatch (routeFrom a r) u ≡ j = by-route .only (routeFrom a r) k u j (c .good) h (for-mirror a (k .own) r q m) in
-      let n : stepped q .answer .number ≡ 0 = subst (λ (y : ℕ). stepped (recordAt u y) .answer .number ≡ 0) p (c .number) in
-      let s : stepped (recordAt u (firstMatch (routeFrom a r) u)) ≡ act q (k .own) v =
-      ap (λ (y : ℕ). stepped (recordAt u y)) p ∙ taken-in q (k .own) (g .time) (g .random) (g .idle-time) x (g .net) (g .out) n ∙ ap (act q (k .own)) f in
-      let z = eq-eqb (receivedRefusal q (k .own) (g .idle-time) x (g .net) (g .out)) 0 (sym (answers .by-received q (k .own) (g .time) (g .random) (g .idle-time) x (g .net) (g .out)) ∙ n) in
-      let o : stepped-out (recordAt u (firstMatch (routeFrom a r) u)) ≡ outOf q (k .own) v = ap (λ (y : ℕ). stepped-out (recordAt u y)) p ∙ (rw z refl) ∙ ap (outOf q (k .own)) f in
+  taking : (v : Verdict) → judged q b (g .time) (telegramOf l) ≡ v → Done (takes called (arriving l a r k u g)) → Taking (arriving l a r k u g) j b q v
+  taking v f done =
+      let x : Receipt = arriving l a r k u g in
+      let c : Call = Received (x .route) (g .random) (g .idle-time) (telegramOf l) (g .net) in
+      let found = mirror-place a r k u j (carried c k u (g .time) (g .out) done .good) mirrored-there (y .there-is) in
+      let f′ : judged (recordAt u j) (k .own) (g .time) (telegramOf l) ≡ v = rw (y .own-is, y .record-is) f in
+      let d : Does (takes called x) (g .out) j (effectOf v q b (g .time) (g .random) (declaredBy (g .idle-time)) (telegramOf l) (g .net)) =
+      rw (← y .own-is, ← y .record-is) (receipt-at x j v found f′ done) in
       record {
-        number = ap (λ (y : Step). y .answer .number) (sym s) ∙ c .number;
-        leaves =
-            record {
-              record-is =
-                  ap (λ (y : List Record). recordAt y j) (c .table) ∙ ap (λ (y : ℕ). recordAt (set u y (stepped (recordAt u (firstMatch (routeFrom a r) u)) .«record»)) j) p
-                  ∙ getD-set-same u j _ nowhere h ∙ ap (λ (y : Step). y .«record») s;
-              event-is = c .event ∙ ap (λ (y : Step). y .event) s;
-              telegram-is = rw (c .answer, c .out, o) (ap (λ (y : Step). take (y .answer .length) (outOf q (k .own) v)) s);
-              own-is = ap (λ (y : Head). y .own) (c .head);
-              there-is = rw (others-unchanged .count (Received (routeFrom a r) (g .random) (g .idle-time) x (g .net)) k u (g .time) (g .out)) h;
-            };
+        does = d;
+        holds = left-with c k u (g .time) (g .out) j b _ (y .own-is) (y .there-is) (d .leaves) done;
+        written = λ n z q′ kind e is. receipt-wrote x j v n z q′ kind e found f′ (rw (y .own-is, y .record-is) is) done;
       }
 
-  -- the same of a record and an address that are known
-  acts-as : (y : Record) (b : ℕ) (v : Verdict) → q ≡ y → k .own ≡ b → Mirror a r b y → j < length u → Done (takes l a r k u g) → judged y b (g .time) x ≡ v → Acts y b v
-  acts-as y b v ey eb m h done f =
-      subst (λ (w : Record). Acts w b v) ey
-      (subst (λ (w : ℕ). Acts q w v) eb
-      (acts v (subst (λ (w : Record). Mirror a r (k .own) w) (sym ey) (subst (λ (w : ℕ). Mirror a r w y) (sym eb) m)) h done
-      (subst (λ (w : Record). judged w (k .own) (g .time) x ≡ v) (sym ey) (subst (λ (w : ℕ). judged y w (g .time) x ≡ v) (sym eb) f))))
+-- and later, when the record has become r
+later : (x : Receipt) (j b : ℕ) (q : Record) (v : Verdict) (r : Record) (ms : List Made) → Taking x j b q v
+    → effectOf v q b (x .time) (x .random) (declaredBy (x .idle-time)) (x .telegram) (x .net) .after ≡ r
+    → All-nothing-to called (takes called x .outcome .head) (takes called x .table) j ms → Holds (headThen called (takes called x) ms) (tableThen called (takes called x) ms) j b r
+later x j b q v r ms t e z = meanwhile (takes called x .outcome .head) (takes called x .table) j b r ms (rw (← e) (t .holds)) z
+
+-- What awaits a telegram
+
+-- a wait that is not over
+in-wait : (q : Record) (time : ℕ) → 2 ≤ q .phase → q .phase ≤ 4 → time ≤ q .«sent_at» + 5000 → runOut q time ≡ false
+unfolding runOut waitOver pick
+in-wait q time low high ok =
+    rw (ne-eqb (q .phase) 5 (λ e. omega arith), le-leb 2 (q .phase) low, le-leb (q .phase) 4 high, le-ltb 5000 (gap (q .«sent_at») time) (omega arith)) refl
 
 -- by the table, in time
-judged-by : (y : Record) (b time : ℕ) (x : List ℕ) (v : Kind) (n : ℕ) → y .phase ≡ n → runOut y time ≡ false → checkOf (endOf y b) (expectedNow y) x ≡ Passes → kindOfCommand (commandOf x) ≡ v
-    → judged y b time x ≡ narrowed (ruled (rowOf v) n) y x
-judged-by y b time x v n p w c f =
-    by-the-table .passing y b time x w c ∙ ap (λ (z : Kind). narrowed (ruled (rowOf z) (y .phase)) y x) f ∙ ap (λ (z : ℕ). narrowed (ruled (rowOf v) z) y x) p
+judged-by : (a b time : ℕ) (r q : Record) (x : List ℕ) (v : Kind) (vs net : List ℕ) (n : ℕ) → Mirror a r b q → q .phase ≡ n → runOut q time ≡ false
+    → Taken (endOf r a) (expectedNow q) x v vs net → judged q b time x ≡ narrowed (ruled (rowOf v) n) q x
+judged-by a b time r q x v vs net n m p w y =
+    by-the-table .passing q b time x w (rw m (y .passes)) ∙ ap (λ (z : Kind). narrowed (ruled (rowOf z) (q .phase)) q x) (y .kind) ∙ ap (λ (z : ℕ). narrowed (ruled (rowOf v) z) q x) p
 
 -- our version is a good one
 version-good : (t : List ℕ) (random time : ℕ) → values kind.Request t ≡ random ∷ time ∷ versionAndBus → goodVersion t ≡ true
@@ -137,7 +143,7 @@ back-two n l = omega arith
 mirror-back : (a b : ℕ) (r q : Record) → Mirror a r b q → Mirror b q a r
 mirror-back a b r q m = sym (ap mirrored m)
 
--- The records and telegrams of a set-up
+-- The records of a set-up
 
 module _ (p : Parties) where
   abbrev a : ℕ
@@ -146,290 +152,224 @@ module _ (p : Parties) where
   abbrev b : ℕ
   b = p .head′ .own
 
-  abbrev r₀ : Record
-  r₀ = here p
-
-  abbrev q₀ : Record
-  q₀ = there p
-
   abbrev R : ℕ
   R = p .first .random
 
   abbrev S : ℕ
   S = p .second .random
 
-  abbrev level : ℕ
-  level = r₀ .level
+  -- the idle times declared
+  abbrev T : ℕ
+  T = declaredBy (p .first .idle-time)
+
+  abbrev U : ℕ
+  U = declaredBy (p .second .idle-time)
 
   abbrev r₁ : Record
-  r₁ = become r₀ 2 (next R) 0 (declaredBy (p .first .idle-time)) 0 (p .first .time) 0
-
-  abbrev x₁ : List ℕ
-  x₁ = request (endOf r₀ a) R (declaredBy (p .first .idle-time)) (p .first .net)
-
-  module _ (s : Sets-up p) where
-    first-call : Carried (Open (p .i) R (p .first .idle-time) (p .first .net)) (p .head) (p .table) (p .first .time) (p .first .out)
-    first-call = carried (Open (p .i) R (p .first .idle-time) (p .first .net)) (p .head) (p .table) (p .first .time) (p .first .out) (s .asked)
-
-    first-writes : Writes x₁ (p .first .out) r₁ 1 event.Nothing (refusal (endOf r₀ a) (length (p .first .out)) (connectAllowed (declaredBy (p .first .idle-time)) (length (p .first .net)) (endOf r₀ a .level)))
-        (openOf r₀ a (p .first .time) R (p .first .idle-time) (p .first .net) (p .first .out)) (openOut r₀ a R (p .first .idle-time) (p .first .net) (p .first .out))
-    unfolding openOf openOut writesRequest
-    first-writes =
-        writes (openRefusal r₀ a (p .first .idle-time) (p .first .net) (p .first .out))
-        (refusal (endOf r₀ a) (length (p .first .out)) (connectAllowed (declaredBy (p .first .idle-time)) (length (p .first .net)) (endOf r₀ a .level))) x₁ (p .first .out) r₀ r₁ 1 event.Nothing (first-call .number)
-
-    asked-leaves : Leaves (asks p) (p .i) a r₁ event.Nothing x₁
-    unfolding at
-    asked-leaves =
-        let c = first-call in
-        record {
-          record-is = ap (λ (y : List Record). recordAt y (p .i)) (c .table) ∙ getD-set-same (p .table) (p .i) _ nowhere (c .there) ∙ first-writes .left;
-          event-is = c .event ∙ first-writes .event;
-          telegram-is = rw (c .answer, c .out) (first-writes .bytes);
-          own-is = ap (λ (y : Head). y .own) (c .head);
-          there-is = rw (others-unchanged .count (Open (p .i) R (p .first .idle-time) (p .first .net)) (p .head) (p .table) (p .first .time) (p .first .out)) (c .there);
-        }
-
-    request-there : (expected : ℕ) → Taken (endOf r₀ a) expected (telegramOf (asks p)) kind.Request (R ∷ declaredBy (p .first .idle-time) ∷ versionAndBus) (p .first .net)
-    unfolding writesRequest
-    request-there expected =
-        subst (λ (y : List ℕ). Taken (endOf r₀ a) expected y kind.Request (R ∷ declaredBy (p .first .idle-time) ∷ versionAndBus) (p .first .net)) (sym (asked-leaves .telegram-is))
-        (request-taken (endOf r₀ a) R (declaredBy (p .first .idle-time)) expected (p .first .net) (p .first .out) x₁ (s .random-here) (s .net-here) (first-writes .written))
-
-    -- the responder's verdict
-    good-request : goodVersion (telegramOf (asks p)) ≡ true
-    good-request = version-good (telegramOf (asks p)) R (declaredBy (p .first .idle-time)) (request-there 0 .fields)
-
-    at-rest : runOut q₀ (p .second .time) ≡ false
-    unfolding runOut pick
-    at-rest = rw (s .closed-there) refl
-
-    confirms-it : judged q₀ b (p .second .time) (telegramOf (asks p)) ≡ Confirm
-    unfolding pick
-    confirms-it =
-        judged-by q₀ b (p .second .time) (telegramOf (asks p)) kind.Request 1 (s .closed-there) at-rest (rw (s .mirror) (request-there (expectedNow q₀) .passes)) (request-there 0 .kind)
-        ∙ (rw good-request refl)
+  r₁ = become (here p) 2 (next R) 0 T 0 (p .first .time) 0
 
   abbrev q₁ : Record
-  q₁ = become q₀ 3 (next S) (next R) (declaredBy (p .second .idle-time)) (declaredBy (p .first .idle-time)) (p .second .time) (p .second .time)
-
-  abbrev x₂ : List ℕ
-  x₂ = confirm (endOf q₀ b) S (declaredBy (p .second .idle-time)) (p .second .net)
-
-  module _ (s : Sets-up p) where
-    second-acts : Acts (asks p) a r₀ (p .head′) (p .table′) (p .second) (p .j) q₀ b Confirm
-    second-acts = acts (asks p) a r₀ (p .head′) (p .table′) (p .second) (p .j) Confirm (s .mirror) (s .place) (s .confirmed) (confirms-it s)
-
-    abbrev m₂ : ℕ
-    m₂ = refusal (endOf q₀ b) (length (p .second .out)) (connectAllowed (declaredBy (p .second .idle-time)) (length (p .second .net)) (endOf q₀ b .level))
-
-    second-writes : Writes x₂ (p .second .out) (become q₀ 3 (next S) (next (randomOf (telegramOf (asks p)))) (declaredBy (p .second .idle-time)) (idleTimeOf (telegramOf (asks p))) (p .second .time) (p .second .time)) 2
-        event.Nothing m₂ (act (asks p) a r₀ (p .head′) (p .table′) (p .second) (p .j) q₀ b Confirm) (outOf (asks p) a r₀ (p .head′) (p .table′) (p .second) (p .j) q₀ b Confirm)
-    unfolding writesConfirm pick
-    second-writes = writes 0 m₂ x₂ (p .second .out) q₀ _ 2 event.Nothing (second-acts .number)
-
-    confirmed-leaves : Leaves (confirms p) (p .j) b q₁ event.Nothing x₂
-    confirmed-leaves =
-        let l = second-acts .leaves in let f = request-there s 0 .fields in
-        record {
-          record-is =
-              l .record-is ∙ second-writes .left
-              ∙ ap (λ (vs : List ℕ). become q₀ 3 (next S) (next (getD vs 0 0)) (declaredBy (p .second .idle-time)) (getD vs 1 0) (p .second .time) (p .second .time)) f;
-          event-is = l .event-is ∙ second-writes .event;
-          telegram-is = l .telegram-is ∙ second-writes .bytes;
-          own-is = l .own-is;
-          there-is = l .there-is;
-        }
-
-    confirm-there : (expected : ℕ) → Taken (endOf q₀ b) expected (telegramOf (confirms p)) kind.Confirm (S ∷ declaredBy (p .second .idle-time) ∷ versionAndBus) (p .second .net)
-    unfolding writesConfirm
-    confirm-there expected =
-        subst (λ (y : List ℕ). Taken (endOf q₀ b) expected y kind.Confirm (S ∷ declaredBy (p .second .idle-time) ∷ versionAndBus) (p .second .net)) (sym (confirmed-leaves .telegram-is))
-        (confirm-taken (endOf q₀ b) S (declaredBy (p .second .idle-time)) expected (p .second .net) (p .second .out) x₂ (s .random-there) (s .net-there) (second-writes .written))
+  q₁ = become (there p) 3 (next S) (next R) U T (p .second .time) (p .second .time)
 
   abbrev r₂ : Record
-  r₂ = become r₀ 4 (next (next R)) (next S) (declaredBy (p .first .idle-time)) (declaredBy (p .second .idle-time)) (p .third .time) (p .third .time)
+  r₂ = become (here p) 4 (next (next R)) (next S) T U (p .third .time) (p .third .time)
 
-  abbrev x₃ : List ℕ
-  x₃ = authentication (endOf r₀ a) (next R) S
+module _ (p : Parties) (s : Undisturbed called p) where
+  back-to-here : Mirror (b p) (there p) (a p) (here p)
+  back-to-here = mirror-back (a p) (b p) (here p) (there p) (s .mirror)
 
-  module _ (s : Sets-up p) where
-    towards-opener-end : Mirror b q₀ a r₁
-    unfolding become endOf
-    towards-opener-end = mirror-back a b r₀ q₀ (s .mirror)
+  same-level : there p .level ≡ here p .level
+  unfolding endOf
+  same-level = ap (λ (e : End). e .level) (s .mirror)
 
-    good-confirm : goodVersion (telegramOf (confirms p)) ≡ true
-    good-confirm = version-good (telegramOf (confirms p)) S (declaredBy (p .second .idle-time)) (confirm-there s 0 .fields)
+  responder : Holds (p .head′) (p .table′) (p .j) (b p) (there p)
+  responder = record { own-is = refl; record-is = refl; there-is = s .place }
 
-    waits-for-confirm : runOut r₁ (p .third .time) ≡ false
-    unfolding runOut waitOver become pick
-    waits-for-confirm = let l = s .confirmed-in-time in le-ltb 5000 (gap (p .first .time) (p .third .time)) (omega arith)
+  -- The request
 
-    authenticates-it : judged r₁ a (p .third .time) (telegramOf (confirms p)) ≡ Authenticate
-    unfolding become pick
-    authenticates-it =
-        judged-by r₁ a (p .third .time) (telegramOf (confirms p)) kind.Confirm 2 refl waits-for-confirm (rw towards-opener-end (confirm-there s (expectedNow r₁) .passes)) (confirm-there s 0 .kind)
-        ∙ (rw good-confirm refl)
+  module _ (asked : Done (asks called p)) where
+    abbrev c₁ : Call
+    c₁ = Open (p .i) (R p) (p .first .idle-time) (p .first .net)
 
-    third-acts : Acts (confirms p) b q₀ (asks p .outcome .head) (asks p .table) (p .third) (p .i) r₁ a Authenticate
-    third-acts =
-        acts-as (confirms p) b q₀ (asks p .outcome .head) (asks p .table) (p .third) (p .i) r₁ a Authenticate (asked-leaves s .record-is) (asked-leaves s .own-is) towards-opener-end (asked-leaves s .there-is)
-        (s .authenticated) authenticates-it
+    first-does : Does (asks called p) (p .first .out) (p .i) (asking (here p) (a p) (p .first .time) (R p) (T p) (p .first .net))
+    first-does = open-does (p .head) (p .table) (p .i) (p .first .time) (p .first .out) (R p) (p .first .idle-time) (p .first .net) asked
 
-    abbrev m₃ : ℕ
-    m₃ = refusal (endOf r₁ a) (length (p .third .out)) true
+    waits-for-confirm : Holds (headThen called (asks called p) (p .while-asking)) (tableThen called (asks called p) (p .while-asking)) (p .i) (a p) (r₁ p)
+    waits-for-confirm =
+        meanwhile (asks called p .outcome .head) (asks called p .table) (p .i) (a p) (r₁ p) (p .while-asking)
+        (left-with c₁ (p .head) (p .table) (p .first .time) (p .first .out) (p .i) (a p) (r₁ p) refl
+        (carried c₁ (p .head) (p .table) (p .first .time) (p .first .out) asked .there) (first-does .leaves) asked) (s .while-asking)
 
-    third-writes : Writes (authentication (endOf r₁ a) (r₁ .sending) (randomOf (telegramOf (confirms p)))) (p .third .out)
-        (become r₁ 4 (next (r₁ .sending)) (next (randomOf (telegramOf (confirms p)))) (r₁ .declared) (idleTimeOf (telegramOf (confirms p))) (p .third .time) (p .third .time)) 3 event.Nothing m₃
-        (act (confirms p) b q₀ (asks p .outcome .head) (asks p .table) (p .third) (p .i) r₁ a Authenticate) (outOf (confirms p) b q₀ (asks p .outcome .head) (asks p .table) (p .third) (p .i) r₁ a Authenticate)
-    unfolding writesAuthentication pick
-    third-writes = writes 0 m₃ _ (p .third .out) r₁ _ 3 event.Nothing (third-acts .number)
+    request-there : (expected : ℕ) → Taken (endOf (here p) (a p)) expected (telegramOf (asks called p)) kind.Request (R p ∷ T p ∷ versionAndBus) (p .first .net)
+    unfolding openOf writesRequest
+    request-there expected =
+        rw (told (asks called p) (p .first .out) (p .i) _ first-does)
+        (request-taken (endOf (here p) (a p)) (R p) (T p) expected (p .first .net) (p .first .out) _ (s .random-here) (s .net-here)
+        (call-wrote c₁ (p .head) (p .table) (p .first .time) (p .first .out) (openRefusal (here p) (a p) (p .first .idle-time) (p .first .net) (p .first .out))
+        (refusal (endOf (here p) (a p)) (length (p .first .out)) (connectAllowed (T p) (length (p .first .net)) (endOf (here p) (a p) .level))) _ (r₁ p) 1 event.Nothing refl asked))
 
-    same-x₃ : authentication (endOf r₁ a) (r₁ .sending) (randomOf (telegramOf (confirms p))) ≡ x₃
-    unfolding become endOf
-    same-x₃ = ap (λ (vs : List ℕ). authentication (endOf r₁ a) (next R) (getD vs 0 0)) (confirm-there s 0 .fields)
+    confirms-it : judged (there p) (b p) (p .second .time) (telegramOf (asks called p)) ≡ Confirm
+    unfolding runOut pick
+    confirms-it =
+        let at-rest : runOut (there p) (p .second .time) ≡ false = rw (s .closed-there) refl in
+        judged-by (a p) (b p) (p .second .time) (here p) (there p) (telegramOf (asks called p)) kind.Request _ _ 1 (s .mirror) (s .closed-there) at-rest (request-there (expectedNow (there p)))
+        ∙ (rw (version-good (telegramOf (asks called p)) (R p) (T p) (request-there 0 .fields)) refl)
 
-    authenticated-leaves : Leaves (authenticates p) (p .i) a r₂ event.Nothing x₃
-    unfolding become endOf
-    authenticated-leaves =
-        let l = third-acts .leaves in let f = confirm-there s 0 .fields in
-        record {
-          record-is = l .record-is ∙ third-writes .left ∙ ap (λ (vs : List ℕ). become r₁ 4 (next (next R)) (next (getD vs 0 0)) (r₁ .declared) (getD vs 1 0) (p .third .time) (p .third .time)) f;
-          event-is = l .event-is ∙ third-writes .event;
-          telegram-is = l .telegram-is ∙ third-writes .bytes ∙ same-x₃;
-          own-is = l .own-is;
-          there-is = l .there-is;
-        }
+    -- The confirm
 
-    authentication-there : Taken (endOf r₀ a) (next R) (telegramOf (authenticates p)) kind.Authentication (authenticationNumber level S ∷ []) []
-    unfolding writesAuthentication endOf become
-    authentication-there =
-        subst (λ (y : List ℕ). Taken (endOf r₀ a) (next R) y kind.Authentication (authenticationNumber level S ∷ []) []) (sym (authenticated-leaves .telegram-is))
-        (authentication-taken (endOf r₀ a) (next R) S (p .third .out) x₃ (subst (λ (y : List ℕ). unless m₃ y ≡ wrote y) same-x₃ (third-writes .written)))
+    module _ (confirmed : Done (confirms called p)) where
+      abbrev x₂ : Receipt
+      x₂ = arriving (asks called p) (a p) (here p) (p .head′) (p .table′) (p .second)
 
-  abbrev q₂ : Record
-  q₂ = become q₀ 5 (next (next S)) (next (next R)) (declaredBy (p .second .idle-time)) (declaredBy (p .first .idle-time)) (p .fourth .time) (p .fourth .time)
+      second-taken : Taking x₂ (p .j) (b p) (there p) Confirm
+      second-taken = taking (asks called p) (a p) (here p) (p .head′) (p .table′) (p .second) (p .j) (b p) (there p) responder (s .mirror) Confirm confirms-it confirmed
 
-  abbrev x₄ : List ℕ
-  x₄ = acknowledgement (endOf q₀ b) (next S) R
+      waits-for-authentication : Holds (headThen called (confirms called p) (p .while-confirming)) (tableThen called (confirms called p) (p .while-confirming)) (p .j) (b p) (q₁ p)
+      waits-for-authentication =
+          later x₂ (p .j) (b p) (there p) Confirm (q₁ p) (p .while-confirming) second-taken
+          (ap (λ (vs : List ℕ). become (there p) 3 (next (S p)) (next (getD vs 0 0)) (U p) (getD vs 1 0) (p .second .time) (p .second .time)) (request-there 0 .fields)) (s .while-confirming)
 
-  module _ (s : Sets-up p) where
-    towards-responder-end : Mirror a r₀ b q₁
-    unfolding become endOf
-    towards-responder-end = s .mirror
+      confirm-there : (expected : ℕ) → Taken (endOf (there p) (b p)) expected (telegramOf (confirms called p)) kind.Confirm (S p ∷ U p ∷ versionAndBus) (p .second .net)
+      unfolding writesConfirm
+      confirm-there expected =
+          rw (told (confirms called p) (p .second .out) (p .j) _ (second-taken .does))
+          (confirm-taken (endOf (there p) (b p)) (S p) (U p) expected (p .second .net) (p .second .out) _ (s .random-there) (s .net-there)
+          (second-taken .written (refusal (endOf (there p) (b p)) (length (p .second .out)) (connectAllowed (U p) (length (p .second .net)) (endOf (there p) (b p) .level))) _ _ 2 event.Nothing refl))
 
-    same-level : q₀ .level ≡ level
-    unfolding endOf
-    same-level = ap (λ (e : End). e .level) (s .mirror)
+      authenticates-it : judged (r₁ p) (a p) (p .third .time) (telegramOf (confirms called p)) ≡ Authenticate
+      unfolding become endOf pick
+      authenticates-it =
+          judged-by (b p) (a p) (p .third .time) (there p) (r₁ p) (telegramOf (confirms called p)) kind.Confirm _ _ 2 back-to-here refl (in-wait (r₁ p) (p .third .time) (lit≤ tt) (lit≤ tt) (s .confirmed-in-time))
+          (confirm-there (expectedNow (r₁ p)))
+          ∙ (rw (version-good (telegramOf (confirms called p)) (S p) (U p) (confirm-there 0 .fields)) refl)
 
-    waits-for-authentication : runOut q₁ (p .fourth .time) ≡ false
-    unfolding runOut waitOver become pick
-    waits-for-authentication = let l = s .authenticated-in-time in le-ltb 5000 (gap (p .second .time) (p .fourth .time)) (omega arith)
+      -- The authentication
 
-    number-is-ours : goodNumber q₁ 1 (telegramOf (authenticates p)) ≡ true
-    unfolding goodNumber become
-    number-is-ours =
-        eq-eqb (authenticationOf (telegramOf (authenticates p))) (authenticationNumber (q₀ .level) (back 1 (next S)))
-        (ap (λ (vs : List ℕ). getD vs 0 0) (authentication-there s .fields) ∙ ap (λ (n : ℕ). authenticationNumber n S) (sym same-level) ∙ ap (authenticationNumber (q₀ .level)) (sym (back-one S (s .random-there))))
+      module _ (authenticated : Done (authenticates called p)) where
+        abbrev x₃ : Receipt
+        x₃ = arriving (confirms called p) (b p) (there p) (headThen called (asks called p) (p .while-asking)) (tableThen called (asks called p) (p .while-asking)) (p .third)
 
-    acknowledges-it : judged q₁ b (p .fourth .time) (telegramOf (authenticates p)) ≡ Acknowledge
-    unfolding become expectedNow pick
-    acknowledges-it =
-        judged-by q₁ b (p .fourth .time) (telegramOf (authenticates p)) kind.Authentication 3 refl waits-for-authentication (rw towards-responder-end (authentication-there s .passes)) (authentication-there s .kind)
-        ∙ (rw number-is-ours refl)
+        third-taken : Taking x₃ (p .i) (a p) (r₁ p) Authenticate
+        unfolding become endOf
+        third-taken = taking (confirms called p) (b p) (there p) (x₃ .head) (x₃ .table) (p .third) (p .i) (a p) (r₁ p) waits-for-confirm back-to-here Authenticate authenticates-it authenticated
 
-    fourth-acts : Acts (authenticates p) a r₀ (confirms p .outcome .head) (confirms p .table) (p .fourth) (p .j) q₁ b Acknowledge
-    fourth-acts =
-        acts-as (authenticates p) a r₀ (confirms p .outcome .head) (confirms p .table) (p .fourth) (p .j) q₁ b Acknowledge (confirmed-leaves s .record-is) (confirmed-leaves s .own-is) towards-responder-end
-        (confirmed-leaves s .there-is) (s .acknowledged) acknowledges-it
+        waits-for-acknowledgement : Holds (headThen called (authenticates called p) (p .while-authenticating)) (tableThen called (authenticates called p) (p .while-authenticating)) (p .i) (a p) (r₂ p)
+        unfolding become
+        waits-for-acknowledgement =
+            later x₃ (p .i) (a p) (r₁ p) Authenticate (r₂ p) (p .while-authenticating) third-taken
+            (ap (λ (vs : List ℕ). become (here p) 4 (next (next (R p))) (next (getD vs 0 0)) (T p) (getD vs 1 0) (p .third .time) (p .third .time)) (confirm-there 0 .fields)) (s .while-authenticating)
 
-    abbrev m₄ : ℕ
-    m₄ = refusal (endOf q₁ b) (length (p .fourth .out)) true
+        authentication-there : Taken (endOf (here p) (a p)) (next (R p)) (telegramOf (authenticates called p)) kind.Authentication (authenticationNumber (here p .level) (S p) ∷ []) []
+        unfolding writesAuthentication endOf become
+        authentication-there =
+            subst (λ (vs : List ℕ). Taken (endOf (here p) (a p)) (next (R p)) (telegramOf (authenticates called p)) kind.Authentication (authenticationNumber (here p .level) (getD vs 0 0) ∷ []) []) (confirm-there 0 .fields)
+            (rw (told (authenticates called p) (p .third .out) (p .i) _ (third-taken .does))
+            (authentication-taken (endOf (here p) (a p)) (next (R p)) (randomOf (telegramOf (confirms called p))) (p .third .out) _
+            (third-taken .written (refusal (endOf (here p) (a p)) (length (p .third .out)) true) _ _ 3 event.Nothing refl)))
 
-    fourth-writes : Writes (acknowledgement (endOf q₁ b) (q₁ .sending) (back 1 (q₁ .expected))) (p .fourth .out)
-        (become q₁ 5 (next (q₁ .sending)) (next (q₁ .expected)) (q₁ .declared) (q₁ .watched) (p .fourth .time) (p .fourth .time)) 4 event.Opened m₄
-        (act (authenticates p) a r₀ (confirms p .outcome .head) (confirms p .table) (p .fourth) (p .j) q₁ b Acknowledge)
-        (outOf (authenticates p) a r₀ (confirms p .outcome .head) (confirms p .table) (p .fourth) (p .j) q₁ b Acknowledge)
-    unfolding writesAcknowledgement pick
-    fourth-writes = writes 0 m₄ _ (p .fourth .out) q₁ _ 4 event.Opened (fourth-acts .number)
+        acknowledges-it : judged (q₁ p) (b p) (p .fourth .time) (telegramOf (authenticates called p)) ≡ Acknowledge
+        unfolding become endOf expectedNow goodNumber pick
+        acknowledges-it =
+            let number-is-ours : goodNumber (q₁ p) 1 (telegramOf (authenticates called p)) ≡ true =
+            eq-eqb (authenticationOf (telegramOf (authenticates called p))) (authenticationNumber (there p .level) (back 1 (next (S p))))
+            (ap (λ (vs : List ℕ). getD vs 0 0) (authentication-there .fields) ∙ rw (same-level, back-one (S p) (s .random-there)) refl) in
+            judged-by (a p) (b p) (p .fourth .time) (here p) (q₁ p) (telegramOf (authenticates called p)) kind.Authentication _ _ 3 (s .mirror) refl
+            (in-wait (q₁ p) (p .fourth .time) (lit≤ tt) (lit≤ tt) (s .authenticated-in-time)) authentication-there
+            ∙ (rw number-is-ours refl)
 
-    same-x₄ : acknowledgement (endOf q₁ b) (q₁ .sending) (back 1 (q₁ .expected)) ≡ x₄
-    unfolding become endOf
-    same-x₄ = ap (acknowledgement (endOf q₁ b) (next S)) (back-one R (s .random-here))
+        -- The acknowledgement
 
-    acknowledged-leaves : Leaves (acknowledges p) (p .j) b q₂ event.Opened x₄
-    unfolding become
-    acknowledged-leaves =
-        let l = fourth-acts .leaves in
-        record {
-          record-is = l .record-is ∙ fourth-writes .left;
-          event-is = l .event-is ∙ fourth-writes .event;
-          telegram-is = l .telegram-is ∙ fourth-writes .bytes ∙ same-x₄;
-          own-is = l .own-is;
-          there-is = l .there-is;
-        }
+        module _ (acknowledged : Done (acknowledges called p)) where
+          abbrev x₄ : Receipt
+          x₄ = arriving (authenticates called p) (a p) (here p) (headThen called (confirms called p) (p .while-confirming)) (tableThen called (confirms called p) (p .while-confirming)) (p .fourth)
 
-    acknowledgement-there : Taken (endOf q₀ b) (next S) (telegramOf (acknowledges p)) kind.Acknowledgement (authenticationNumber (q₀ .level) R ∷ []) []
-    unfolding writesAcknowledgement endOf become
-    acknowledgement-there =
-        subst (λ (y : List ℕ). Taken (endOf q₀ b) (next S) y kind.Acknowledgement (authenticationNumber (q₀ .level) R ∷ []) []) (sym (acknowledged-leaves .telegram-is))
-        (acknowledgement-taken (endOf q₀ b) (next S) R (p .fourth .out) x₄ (subst (λ (y : List ℕ). unless m₄ y ≡ wrote y) same-x₄ (fourth-writes .written)))
+          fourth-taken : Taking x₄ (p .j) (b p) (q₁ p) Acknowledge
+          unfolding become endOf
+          fourth-taken = taking (authenticates called p) (a p) (here p) (x₄ .head) (x₄ .table) (p .fourth) (p .j) (b p) (q₁ p) waits-for-authentication (s .mirror) Acknowledge acknowledges-it acknowledged
 
-    -- the opener, once more
-    towards-opener-again : Mirror b q₀ a r₂
-    unfolding become endOf
-    towards-opener-again = mirror-back a b r₀ q₀ (s .mirror)
+          acknowledgement-there : Taken (endOf (there p) (b p)) (next (S p)) (telegramOf (acknowledges called p)) kind.Acknowledgement (authenticationNumber (there p .level) (R p) ∷ []) []
+          unfolding writesAcknowledgement endOf become
+          acknowledgement-there =
+              subst (λ (n : ℕ). Taken (endOf (there p) (b p)) (next (S p)) (telegramOf (acknowledges called p)) kind.Acknowledgement (authenticationNumber (there p .level) n ∷ []) []) (back-one (R p) (s .random-here))
+              (rw (told (acknowledges called p) (p .fourth .out) (p .j) _ (fourth-taken .does))
+              (acknowledgement-taken (endOf (there p) (b p)) (next (S p)) (back 1 (next (R p))) (p .fourth .out) _
+              (fourth-taken .written (refusal (endOf (there p) (b p)) (length (p .fourth .out)) true) _ _ 4 event.Opened refl)))
 
-    waits-for-acknowledgement : runOut r₂ (p .fifth .time) ≡ false
-    unfolding runOut waitOver become pick
-    waits-for-acknowledgement = let l = s .acknowledged-in-time in le-ltb 5000 (gap (p .third .time) (p .fifth .time)) (omega arith)
+          opens-it : judged (r₂ p) (a p) (p .fifth .time) (telegramOf (acknowledges called p)) ≡ Opens
+          unfolding become endOf expectedNow goodNumber pick
+          opens-it =
+              let number-is-mine : goodNumber (r₂ p) 2 (telegramOf (acknowledges called p)) ≡ true =
+              eq-eqb (authenticationOf (telegramOf (acknowledges called p))) (authenticationNumber (here p .level) (back 2 (next (next (R p)))))
+              (ap (λ (vs : List ℕ). getD vs 0 0) (acknowledgement-there .fields) ∙ rw (same-level, back-two (R p) (s .random-here)) refl) in
+              judged-by (b p) (a p) (p .fifth .time) (there p) (r₂ p) (telegramOf (acknowledges called p)) kind.Acknowledgement _ _ 4 back-to-here refl
+              (in-wait (r₂ p) (p .fifth .time) (lit≤ tt) (lit≤ tt) (s .acknowledged-in-time)) acknowledgement-there
+              ∙ (rw number-is-mine refl)
 
-    number-is-mine : goodNumber r₂ 2 (telegramOf (acknowledges p)) ≡ true
-    unfolding goodNumber become
-    number-is-mine =
-        eq-eqb (authenticationOf (telegramOf (acknowledges p))) (authenticationNumber level (back 2 (next (next R))))
-        (ap (λ (vs : List ℕ). getD vs 0 0) (acknowledgement-there .fields) ∙ ap (λ (n : ℕ). authenticationNumber n R) same-level ∙ ap (authenticationNumber level) (sym (back-two R (s .random-here))))
+          fifth-taken : Done (opens called p)
+              → Taking (arriving (acknowledges called p) (b p) (there p) (headThen called (authenticates called p) (p .while-authenticating)) (tableThen called (authenticates called p) (p .while-authenticating)) (p .fifth))
+              (p .i) (a p) (r₂ p) Opens
+          unfolding become endOf
+          fifth-taken opened =
+              taking (acknowledges called p) (b p) (there p) _ _ (p .fifth) (p .i) (a p) (r₂ p) waits-for-acknowledgement back-to-here Opens opens-it opened
 
-    opens-it : judged r₂ a (p .fifth .time) (telegramOf (acknowledges p)) ≡ Opens
-    unfolding become expectedNow pick
-    opens-it =
-        judged-by r₂ a (p .fifth .time) (telegramOf (acknowledges p)) kind.Acknowledgement 4 refl waits-for-acknowledgement (rw towards-opener-again (acknowledgement-there .passes))
-        (acknowledgement-there .kind)
-        ∙ (rw number-is-mine refl)
-
-    fifth-acts : Acts (acknowledges p) b q₀ (authenticates p .outcome .head) (authenticates p .table) (p .fifth) (p .i) r₂ a Opens
-    fifth-acts =
-        acts-as (acknowledges p) b q₀ (authenticates p .outcome .head) (authenticates p .table) (p .fifth) (p .i) r₂ a Opens (authenticated-leaves s .record-is) (authenticated-leaves s .own-is)
-        towards-opener-again (authenticated-leaves s .there-is) (s .opened) opens-it
-
-pub demand-2-set-up : Demand-2-set-up
-unfolding quietly taken become endOf
-demand-2-set-up p s =
-    let l = fifth-acts p s .leaves in
-    let k = acknowledged-leaves p s in
+pub demand-2-set-up : Demand-2-set-up called
+unfolding become endOf
+demand-2-set-up p s all =
+    let l = fifth-taken p s (all .asked) (all .confirmed) (all .authenticated) (all .acknowledged) (all .opened) in
+    let k = fourth-taken p s (all .asked) (all .confirmed) (all .authenticated) (all .acknowledged) in
     record {
-      opener = l .event-is;
-      responder = k .event-is;
+      opener = l .does .says;
+      responder = k .does .says;
       connected =
           record {
             towards =
                 record {
-                  here = l .there-is;
-                  there = k .there-is;
-                  open-to = rw (l .own-is, k .own-is, l .record-is, k .record-is) (record { ends = s .mirror; open-here = refl; open-there = refl; number = refl });
+                  here = l .holds .there-is;
+                  there = k .holds .there-is;
+                  open-to =
+                      rw (l .holds .own-is, k .holds .own-is, l .holds .record-is, k .holds .record-is) (record { ends = s .mirror; open-here = refl; open-there = refl; number = refl });
                 };
             back =
                 record {
-                  here = k .there-is;
-                  there = l .there-is;
+                  here = k .holds .there-is;
+                  there = l .holds .there-is;
                   open-to =
-                      rw (l .own-is, k .own-is, l .record-is, k .record-is)
-                      (record { ends = mirror-back (p .head .own) (p .head′ .own) (here p) (there p) (s .mirror); open-here = refl; open-there = refl; number = refl });
+                      rw (l .holds .own-is, k .holds .own-is, l .holds .record-is, k .holds .record-is) (record { ends = back-to-here p s; open-here = refl; open-there = refl; number = refl });
                 };
           };
-      opener-watches = watching _ _ (l .record-is);
-      responder-watches = watching _ _ (k .record-is);
+      opener-watches = watching _ _ (l .holds .record-is);
+      responder-watches = watching _ _ (k .holds .record-is);
     }
 
-pub demand-2-from-the-request : Demand-2-from-the-request
-demand-2-from-the-request p xs s go = demand-2-over-every-step (set-up p) (p .i) (p .j) xs (demand-2-set-up p s .connected) go
+pub set-up-is-done : Set-up-is-done called
+unfolding become endOf
+set-up-is-done p s fit =
+    let asked =
+    done-by (Open (p .i) (R p) (p .first .idle-time) (p .first .net)) (p .head) (p .table) (p .first .time) (p .first .out) (fit .table-here) (fit .first .room) (fit .first .timely) refl (fit .place-here)
+    (λ e. let z = fit .closed-here in omega arith) (eq-eqb (here p .phase) 1 (fit .closed-here)) (fit .first .allowed) in
+    let good₁ = good-after (asks called p .outcome .head) (asks called p .table) (p .while-asking) (stays-accepted _ (p .head) (p .table) (p .first .time) (p .first .out) (fit .table-here)) in
+    let confirmed =
+    is-done (asks called p) (a p) (here p) (p .head′) (p .table′) (p .second) (p .j) (b p) (there p) (responder p s) (s .mirror) (fit .table-there) (request-there p s asked 0)
+    (λ e. let z = s .closed-there in omega arith) (fit .second) in
+    let good₂ =
+    good-after (confirms called p .outcome .head) (confirms called p .table) (p .while-confirming) (stays-accepted _ (p .head′) (p .table′) (p .second .time) (p .second .out) (fit .table-there)) in
+    let authenticated =
+    is-done (confirms called p) (b p) (there p) _ _ (p .third) (p .i) (a p) (r₁ p) (waits-for-confirm p s asked) (back-to-here p s) good₁ (confirm-there p s asked confirmed 0) (λ e. omega arith)
+    (rw (same-level p s) (fit .third)) in
+    let good₃ =
+    good-after (authenticates called p .outcome .head) (authenticates called p .table) (p .while-authenticating) (stays-accepted _ _ _ (p .third .time) (p .third .out) good₁) in
+    let acknowledged =
+    is-done (authenticates called p) (a p) (here p) _ _ (p .fourth) (p .j) (b p) (q₁ p) (waits-for-authentication p s asked confirmed) (s .mirror) good₂ (authentication-there p s asked confirmed authenticated)
+    (λ e. omega arith) (fit .fourth) in
+    record {
+      asked = asked;
+      confirmed = confirmed;
+      authenticated = authenticated;
+      acknowledged = acknowledged;
+      opened =
+          is-done (acknowledges called p) (b p) (there p) _ _ (p .fifth) (p .i) (a p) (r₂ p) (waits-for-acknowledgement p s asked confirmed authenticated) (back-to-here p s) good₃
+          (acknowledgement-there p s asked confirmed authenticated acknowledged) (λ e. omega arith) (rw (same-level p s) (fit .fifth));
+    }
+
+pub demand-2-from-the-request : Demand-2-from-the-request called
+demand-2-from-the-request p xs s all go = demand-2-over-every-step (set-up called p) (p .i) (p .j) xs (demand-2-set-up p s all .connected) go

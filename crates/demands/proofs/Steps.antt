@@ -26,23 +26,25 @@ use Rattle.link.specs.declared.Event.{Event}
 use Rattle.link.proofs.Facts.{by-the-table}
 use Rattle.link.proofs.Answers.{answers}
 
-front : (a b : List ℕ) → take (length a) (a ++ b) ≡ a
+-- the front of two lists put together
+pub front : (a b : List ℕ) → take (length a) (a ++ b) ≡ a
 front [] b = refl
 front (x ∷ a) b = ap {B = List ℕ} (λ (r : List ℕ). x ∷ r) (front a b)
 
--- a step that writes x and was done: its record, its event, the telegram's length, and the buffer that begins with it
+-- a step that writes x and was done: its record, its event, the telegram's length, and the buffer that begins with it and else is d
 pub record Writes (x d : List ℕ) (q : Record) (kind : ℕ) (e : Event) (m : ℕ) (s : Step) (out : List ℕ) : Type 0 where
   pub none : m ≡ 0
   pub written : unless m x ≡ wrote x
   pub left : s .«record» ≡ q
   pub telegram : s .answer .telegram ≡ kind
   pub event : s .event ≡ e
-  pub bytes : take (s .answer .length) out ≡ x
+  pub size : s .answer .length ≡ length x
+  pub buffer : out ≡ x ++ drop (length x) d
 
 pub writes : (n m : ℕ) (x d : List ℕ) (r q : Record) (kind : ℕ) (e : Event) → unlessStep n r (writingStep (answerOf (unless m x)) r q kind e) .answer .number ≡ 0
     → Writes x d q kind e m (unlessStep n r (writingStep (answerOf (unless m x)) r q kind e)) (unlessOut n d (leftBy (unless m x) d))
 unfolding pick writingStep refusedStep
-writes zero zero x d r q kind e z = record { none = refl; written = refl; left = refl; telegram = refl; event = refl; bytes = front x (drop (length x) d) }
+writes zero zero x d r q kind e z = record { none = refl; written = refl; left = refl; telegram = refl; event = refl; size = refl; buffer = refl }
 writes zero (suc m) x d r q kind e z = let f = ne-eqb (suc m) 0 (λ y. omega arith) in let y : suc m ≡ 0 = (rw f at z) in absurd (omega arith)
 writes (suc n) m x d r q kind e z = let f = ne-eqb (suc n) 0 (λ y. omega arith) in let y : suc n ≡ 0 = (rw f at z) in absurd (omega arith)
 

@@ -30,7 +30,7 @@ use Rattle.node.specs.Matching.{firstMatch}
 use Rattle.node.specs.Calls.{Left, called}
 use Rattle.node.specs.Calls.Call.{Received}
 use Rattle.node.specs.Plain.{dataOf}
-use Rattle.demands.specs.Pairs.{Done, In-time, Nodes, Towards, Moment, sent, got, Arrives}
+use Rattle.demands.specs.Pairs.{Done, In-time, Listens, Nodes, Towards, Moment, Arrives}
 use Rattle.demands.specs.Demand2.{Is-closed, Closed-with}
 use Rattle.demands.specs.Demand3.{Wrote, endAt}
 
@@ -136,29 +136,23 @@ pub record Comes-damaged (w : Route) (h : Head) (table : List Record) (i : ℕ) 
   pub command : commandOf t ≡ commandOf u
   pub within : Within (wordLength (recordAt table i .level)) t u
 
--- A record whose connection is being set up (2 to 4) or open (5), and whose wait or watch has not run out.
-pub data Listens (r : Record) (time : ℕ) : Type 0 where
-  set-up : 2 ≤ r .phase → r .phase ≤ 4 → time ≤ r .«sent_at» + 5000 → Listens r time
-  open-here : r .phase ≡ 5 → In-time r time → Listens r time
-
--- The call closes the record at this place with 06h, not finally (5.2.5.7.3), writes a disconnect (5), and hands up nothing of the telegram.
-pub record Turned-away (l : Left) (place : ℕ) (telegram : List ℕ) : Type 0 where
-  pub closed : Is-closed l place 0x06 false
-  pub disconnect : l .outcome .answer .telegram ≡ 5
+-- The call closes the record at this place with 06h, not finally (5.2.5.7.3), with a disconnect, and hands up nothing of the telegram.
+pub record Turned-away (l : Left) (h : Head) (table : List Record) (d : List ℕ) (place : ℕ) (telegram : List ℕ) : Type 0 where
+  pub closed : Is-closed l h table d place 0x06 false []
   pub nothing-up : dataOf (l .outcome .event) telegram ≡ []
 
 abbrev pub Damage-closes : Type 0
 Damage-closes =
     (w : Route) (random : ℕ) (idle-time : IdleTime) (t u net : List ℕ) (h : Head) (table : List Record) (i time : ℕ) (d : List ℕ)
     → Comes-damaged w h table i t u → Listens (recordAt table i) time → Done (called (Received w random idle-time u net) h table time d)
-    → Turned-away (called (Received w random idle-time u net) h table time d) i u
+    → Turned-away (called (Received w random idle-time u net) h table time d) h table d i u
 
 -- Where its disconnect arrives, the partner's end is closed with 06h too.
 abbrev pub Damage-closes-both : Type 0
 Damage-closes-both =
     (n : Nodes) (i j random : ℕ) (idle-time : IdleTime) (w : Route) (t u net : List ℕ) (m : Moment) → Towards n i j → Comes-damaged w (n .head) (n .table) i t u
-    → In-time (recordAt (n .table) i) (m .sent-at) → Arrives n i j (Received w random idle-time u net) m
-    → Closed-with (sent n (Received w random idle-time u net) m) (got n i (Received w random idle-time u net) m) i j 0x06 false
+    → In-time (recordAt (n .table) i) (m .sent-at) → Arrives called n i j (Received w random idle-time u net) m
+    → Closed-with called n i j (Received w random idle-time u net) m 0x06 false []
 
 -- The call says nothing, writes nothing, and leaves table and buffer as they were.
 pub record Dropped (l : Left) (table : List Record) (d : List ℕ) : Type 0 where

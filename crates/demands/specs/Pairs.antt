@@ -1,9 +1,9 @@
--- Two nodes, the two ends of a connection between them, and a telegram from one to the other.
+-- Two nodes, the two ends of a connection between them, and a telegram from one to the other, whatever link they run: `called` is ours.
 -- Assumes nothing.
 use mathlib.Core.Path.{_≡_}
 use mathlib.Core.Bool.{true}
-use mathlib.Core.List.{List}
-use Prim.Native.Nat.{ℕ, _+_, _≤_, _<_}
+use mathlib.Core.List.{List, [], _∷_}
+use Prim.Native.Nat.{ℕ, _+_, _*_, _≤_, _<_}
 use lib.ListN.{length, take}
 use Rattle.telegram.specs.Ends.{mirrored}
 use Rattle.telegram.specs.Writers.{connectAllowed}
@@ -14,8 +14,8 @@ use Rattle.link.specs.declared.IdleTime.{IdleTime}
 use Rattle.node.specs.declared.Head.{Head}
 use Rattle.node.specs.declared.Route.{Route}
 use Rattle.node.specs.Accepted.{recordAt, accepted}
-use Rattle.node.specs.Calls.{Call, Left, called}
-use Rattle.node.specs.Calls.Call.{Received}
+use Rattle.node.specs.Calls.{Call, Left, Link, placeOf}
+use Rattle.node.specs.Calls.Call.{Received, Tick}
 
 -- The record q of the node b is the mirror of the record r of the node a: addresses and SAPs crossed, one level.
 abbrev pub Mirror : ℕ → Record → ℕ → Record → Type 0
@@ -80,26 +80,68 @@ pub record Moment : Type 0 where
   pub net : List ℕ
 
 -- A call of the sender.
-abbrev pub sent : Nodes → Call → Moment → Left
-sent n c m = called c (n .head) (n .table) (m .sent-at) (m .buffer)
+abbrev pub sent : Link → Nodes → Call → Moment → Left
+sent link n c m = link c (n .head) (n .table) (m .sent-at) (m .buffer)
 
 -- The call with which the partner takes what it wrote for the record at place i: the telegram, under the address and SAPs that it was sent under.
-abbrev pub got : Nodes → ℕ → Call → Moment → Left
-got n i c m =
-    called (Received (routeFrom (n .head .own) (recordAt (n .table) i)) (m .random) (m .idle-time) (telegramOf (sent n c m)) (m .net)) (n .head′) (n .table′) (m .received-at) (m .buffer′)
+abbrev pub got : Link → Nodes → ℕ → Call → Moment → Left
+got link n i c m =
+    link (Received (routeFrom (n .head .own) (recordAt (n .table) i)) (m .random) (m .idle-time) (telegramOf (sent link n c m)) (m .net)) (n .head′) (n .table′) (m .received-at) (m .buffer′)
 
 -- The nodes afterwards.
-abbrev pub after : Nodes → ℕ → Call → Moment → Nodes
-after n i c m = record { head = sent n c m .outcome .head; table = sent n c m .table; head′ = got n i c m .outcome .head; table′ = got n i c m .table }
+abbrev pub after : Link → Nodes → ℕ → Call → Moment → Nodes
+after link n i c m =
+    record { head = sent link n c m .outcome .head; table = sent link n c m .table; head′ = got link n i c m .outcome .head; table′ = got link n i c m .table }
+
+-- A call of one node, with its time and its buffer, and what it leaves.
+pub record Made : Type 0 where
+  pub call : Call
+  pub time : ℕ
+  pub buffer : List ℕ
+
+abbrev pub made : Link → Head → List Record → Made → Left
+made link h t m = link (m .call) h t (m .time) (m .buffer)
+
+-- Head and table of a node after a list of calls, done or refused.
+abbrev pub headAfter : Link → Head → List Record → List Made → Head
+headAfter link h t [] = h
+headAfter link h t (m ∷ ms) = headAfter link (made link h t m .outcome .head) (made link h t m .table) ms
+
+abbrev pub tableAfter : Link → Head → List Record → List Made → List Record
+tableAfter link h t [] = t
+tableAfter link h t (m ∷ ms) = tableAfter link (made link h t m .outcome .head) (made link h t m .table) ms
 
 -- A time at which the watch of an open record has not run out: it has none (0), or the last telegram was taken at most so long ago.
 abbrev pub In-time : Record → ℕ → Type 0
 In-time r time = (r .watched ≡ 0 → ⊥) → time ≤ r .«taken_at» + r .watched
 
+-- A record whose connection is being set up (2 to 4) or open (5), at a time at which its wait or watch has not run out.
+pub data Listens (r : Record) (time : ℕ) : Type 0 where
+  set-up : 2 ≤ r .phase → r .phase ≤ 4 → time ≤ r .«sent_at» + 5000 → Listens r time
+  open-here : r .phase ≡ 5 → In-time r time → Listens r time
+
+-- An idle telegram is due at this time: at least half of the time declared has passed since the last sending, and the own watch has not run out.
+pub record Due (r : Record) (time : ℕ) : Type 0 where
+  pub declares : r .declared ≡ 0 → ⊥
+  pub half : 2 * r .«sent_at» + r .declared ≤ 2 * time
+  pub in-time : In-time r time
+
+-- A call that is nothing to the connection of the record at place i: for another record; refused; or a tick of it where neither its wait or watch has run out
+-- nor, on an open one, an idle telegram is due.
+pub data Nothing-to (link : Link) (h : Head) (t : List Record) (i : ℕ) (m : Made) : Type 0 where
+  elsewhere : (placeOf (m .call) t ≡ i → ⊥) → Nothing-to link h t i m
+  refused : (Done (made link h t m) → ⊥) → Nothing-to link h t i m
+  early : m .call ≡ Tick i → Listens (recordAt t i) (m .time) → (recordAt t i .phase ≡ 5 → Due (recordAt t i) (m .time) → ⊥) → Nothing-to link h t i m
+
+-- A list of such calls, one after the other.
+abbrev pub All-nothing-to : Link → Head → List Record → ℕ → List Made → Type 0
+All-nothing-to link h t i [] = Unit {0}
+All-nothing-to link h t i (m ∷ ms) = Nothing-to link h t i m × All-nothing-to link (made link h t m .outcome .head) (made link h t m .table) i ms
+
 -- Both calls are done, and the telegram comes in time for the partner's record at place j.
-pub record Arrives (n : Nodes) (i j : ℕ) (c : Call) (m : Moment) : Type 0 where
-  pub done : Done (sent n c m)
-  pub taken : Done (got n i c m)
+pub record Arrives (link : Link) (n : Nodes) (i j : ℕ) (c : Call) (m : Moment) : Type 0 where
+  pub done : Done (sent link n c m)
+  pub taken : Done (got link n i c m)
   pub in-time : In-time (recordAt (n .table′) j) (m .received-at)
 
 -- Nothing stands in the way of the two calls: both tables are accepted, both buffers have room, neither clock goes back, and what is lent for a possible confirm

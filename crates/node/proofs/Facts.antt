@@ -130,14 +130,14 @@ module _ (c : Call) (h : Head) (t : List Record) (time : ℕ) (d : List ℕ) whe
       let m : s .answer .number ≡ 0 = step-number c r (h .own) time d ∙ sym (answered-by c h t time d (table-fine e)) ∙ e in
       ap (λ u. u .head) (done-left e .0) ∙ (let f = eq-eqb (s .answer .number) 0 m in rw f refl)
 
-pub first-answered : First-answered
+pub first-answered : First-answered called
 first-answered c h t time d = answered c h t time d
 
-pub refused-changes-nothing : Refused-changes-nothing
+pub refused-changes-nothing : Refused-changes-nothing called
 refused-changes-nothing c h t time d ne =
     let e = answered c h t time d in let left = refused-left c h t time d (λ z. ne (e ∙ z)) in (left .0 ∙ ap (λ m. refusedOutcome m h) (sym e), left .1)
 
-pub done-sets-the-time : Done-sets-the-time
+pub done-sets-the-time : Done-sets-the-time called
 done-sets-the-time c h t time d e = done-head c h t time d (sym (answered c h t time d) ∙ e)
 
 -- Every other record
@@ -162,7 +162,7 @@ either-table P c h t time d p q = by (eqb (k c h t time d) 0) refl
     by true e = rw (done-left c h t time d (eqb-true _ _ e) .1) q
     by false e = rw (refused-left c h t time d (eqb-false _ _ e) .1 .0) p
 
-pub others-unchanged : Others-unchanged
+pub others-unchanged : Others-unchanged called
 others-unchanged =
     record {
       records = λ c h t time d i ne.
@@ -170,7 +170,7 @@ others-unchanged =
       count = λ c h t time d. either-table (λ (u : List Record). length u ≡ length t) c h t time d refl (length-set t (placeOf c t) _);
     }
 
-pub partners-stay : Partners-stay
+pub partners-stay : Partners-stay called
 partners-stay c h t time d i =
     either-table (λ (u : List Record). Same (recordAt t i) (recordAt u i)) c h t time d (same-refl _)
     (same-set t (placeOf c t) i _ (step-same c (recordAt t (placeOf c t)) (h .own) time d))
@@ -242,7 +242,7 @@ step-kept : (c : Call) (h : Head) (r : Record) (time : ℕ) (d : List ℕ) → K
 unfolding at
 step-kept c h r time d g = record { timers = step-timed c r (h .own) time d (g .timers); in-range = step-in-range c r (h .own) time d (g .in-range) }
 
-pub stays-accepted : Stays-accepted
+pub stays-accepted : Stays-accepted called
 unfolding refusedOutcome
 stays-accepted c h t time d e = by (eqb (k c h t time d) 0) refl
   where
@@ -372,7 +372,7 @@ module _ (t : List ℕ) where
       by true = p
       by false = hands-nothing
 
-pub net-data-handed-on : Net-data-handed-on
+pub net-data-handed-on : Net-data-handed-on called
 unfolding refusedOutcome
 net-data-handed-on w random i telegram net h t time d = by (eqb (k c h t time d) 0) refl
   where

@@ -110,12 +110,18 @@ pub record Left : Type 0 where
   pub table : List Record
   pub out : List ℕ
 
+-- A link is whatever leaves something at each call, under head, table, time and buffer. `called`, below, is ours. The statements about calls are said of any
+-- link, so that they can be tried on wrong ones too.
+abbrev pub Link : Type 0
+Link = Call → Head → List Record → ℕ → List ℕ → Left
+
 -- Refused with the number n, or, where that is 0, done: the step's record in its place, every other as it was.
 abbrev pub leaves : ℕ → Head → List Record → ℕ → List ℕ → ℕ → Step → List ℕ → Left
 leaves n h t time d place s e =
     pick (eqb n 0) (record { outcome = settled s h time; table = set t place (s .«record»); out = e }) (record { outcome = refusedOutcome n h; table = t; out = d })
 
-unfoldable pub called : Call → Head → List Record → ℕ → List ℕ → Left
+-- Our link.
+unfoldable pub called : Link
 called c h t time d =
     leaves (first (order (asked c h t time d))) h t time d (placeOf c t) (stepOf c (recordAt t (placeOf c t)) (h .own) time d)
     (stepOut c (recordAt t (placeOf c t)) (h .own) time d)

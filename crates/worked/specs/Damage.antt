@@ -35,13 +35,13 @@ use Rattle.node.specs.declared.Head.{Head}
 use Rattle.node.specs.declared.Route.{Route}
 use Rattle.node.specs.Accepted.{recordAt, accepted, boundsAccepted, recordAccepted}
 use Rattle.node.specs.Calls.{Left, called, asked, settled}
-use Rattle.demands.specs.Pairs.{Done, Towards, Arrives}
+use Rattle.demands.specs.Pairs.{Done, Towards, Listens, Arrives}
 use Rattle.worked.specs.Demand2.{exampleRecord, exampleReceipt, exampleNodes, example-connected, exampleMoment}
 use Rattle.demands.specs.Demand3.{Wrote}
 use Rattle.worked.specs.Demand3.{exampleTelegram4, exampleTelegram2, example-wrote}
-use Rattle.demands.specs.Damage.{Changed, Damage, Other-than-connect, Same-sort, Comes-damaged, Listens}
+use Rattle.demands.specs.Damage.{Changed, Damage, Other-than-connect, Same-sort, Comes-damaged}
 use Rattle.demands.specs.Damage.Damage.{before-the-word, in-the-word}
-use Rattle.demands.specs.Damage.Listens.{set-up, open-here}
+use Rattle.demands.specs.Pairs.Listens.{set-up, open-here}
 
 -- Node 1's record for node 8 at this level: open, and expecting the number 01234569h.
 abbrev pub exampleOpenAt : ℕ → Record
@@ -305,7 +305,7 @@ exampleBackChanged = 0xF1 ∷ 0x89 ∷ 0xFE ∷ 0xFD ∷ 0x91 ∷ 0xE7 ∷ 0x23 
 pub example-both-ends :
     Towards (exampleNodes 4) 0 0
     × Comes-damaged (record { sender = 9; «destination_sap» = 3; «source_sap» = 3 }) (exampleNodes 4 .head) (exampleNodes 4 .table) 0 exampleBack exampleBackChanged
-    × Arrives (exampleNodes 4) 0 0 (exampleReceipt 9 exampleBackChanged) (exampleMoment 1300)
+    × Arrives called (exampleNodes 4) 0 0 (exampleReceipt 9 exampleBackChanged) (exampleMoment 1300)
 unfolding called asked settled accepted boundsAccepted recordAccepted recordInRange endOf inRange isPhase isClosed goodIdle atRest firstRefusal writingStep refusal receivedRefusal receivedOf receivedOut declaredBy connectAllowed judged passed runOut watchOver expectedNow checkOf wordAgrees levelOf disconnectAllowed goodType listedReason writesDisconnect telegrams.disconnect closedBy become quietly sealed body checkWord implicit topBits width wordLength generator generator48 shift feed kindOf isData pick
 example-both-ends = (
   example-connected 1000 4 .towards,

@@ -30,8 +30,7 @@ use Rattle.link.specs.declared.Record.{Record}
 use Rattle.node.specs.Accepted.{recordAt, accepted, boundsAccepted, recordAccepted}
 use Rattle.node.specs.Calls.{Call, placeOf, called, asked, settled}
 use Rattle.node.specs.Calls.Call.{Close, Send, Received, Tick}
-use Rattle.demands.specs.Pairs.{Nodes, Connected, Moment, sent, Arrives, Nothing-wrong}
-use Rattle.demands.specs.Demand2.{Due}
+use Rattle.demands.specs.Pairs.{Nodes, Connected, Moment, sent, Due, Arrives, Nothing-wrong}
 
 -- Worked example: node 8 and node 9, each with one connection, to the other, from SAP 3 to SAP 3 at this level. It is open since time 1000, after the random
 -- numbers 01234567h of node 8 and 89ABCDEFh of node 9, with an idle time of 500 both ways.
@@ -125,8 +124,8 @@ example-premises = (
 -- What node 8 does at this time is for its record, it writes a telegram of this kind, and the telegram arrives.
 pub record Example (n : Nodes) (c : Call) (time kind : ℕ) : Type 0 where
   pub place : placeOf c (n .table) ≡ 0
-  pub arrives : Arrives n 0 0 c (exampleMoment time)
-  pub telegram : sent n c (exampleMoment time) .outcome .answer .telegram ≡ kind
+  pub arrives : Arrives called n 0 0 c (exampleMoment time)
+  pub telegram : sent called n c (exampleMoment time) .outcome .answer .telegram ≡ kind
 
 -- So it is where it sends data 09h with the net bytes 1 and 2 (7); where it ticks, 300 after it last sent (an idle telegram, 6); where it closes finally with reason
 -- 20h and the text bytes 1 and 2 (a disconnect, 5); where it receives ten bytes of 0 (5); and where it ticks at 1501, one after its watch ran out, while node

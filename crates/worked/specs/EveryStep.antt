@@ -4,6 +4,7 @@ use mathlib.Core.Path.{_≡_, refl}
 use mathlib.Core.List.{List, [], _∷_}
 use Prim.Native.Nat.{ℕ, _≤_}
 use native.Mathlib.Omega.{arith}
+use lib.ListN.{replicate}
 use lib.Dec.{lit<, lit≤}
 use Rattle.checkword.specs.Generators.{generator48, generator32}
 use Rattle.checkword.specs.Word.{shift, feed}
@@ -25,12 +26,12 @@ use Rattle.node.specs.Heads.{at}
 use Rattle.node.specs.Accepted.{accepted, boundsAccepted, recordAccepted}
 use Rattle.node.specs.Calls.{called, asked, refusedOutcome, settled}
 use Rattle.node.specs.Calls.Call.{Send, Tick}
-use Rattle.demands.specs.Pairs.{sent}
 use Rattle.worked.specs.Demand2.{exampleNodes, exampleMoment}
 use Rattle.demands.specs.EveryStep.{Exchange, All-go-well, messages}
 use Rattle.demands.specs.EveryStep.Way.{there, back}
 use Rattle.demands.specs.EveryStep.Exchange.{message, idle, meanwhile}
-use Rattle.demands.specs.EveryStep.Nothing-to.{refused, early}
+use Rattle.demands.specs.Pairs.Nothing-to.{refused, early}
+use Rattle.demands.specs.Pairs.Listens.{open-here}
 
 -- Worked example: nodes 8 and 9 as in Demand2's, which are connected. Node 8 sends data 09h with the net bytes 1 and 2 at time 1100, and ticks at 1200, where
 -- nothing is due; node 9 sends data 20h with the net byte 3 at 1250; node 8 is refused a sending for a place that its table has not at 1350, and ticks again at
@@ -38,20 +39,20 @@ use Rattle.demands.specs.EveryStep.Nothing-to.{refused, early}
 abbrev pub exampleExchanges : List Exchange
 exampleExchanges =
     message there 0x09 (1 ∷ 2 ∷ []) (exampleMoment 1100)
-    ∷ meanwhile there (Tick 0) (exampleMoment 1200)
+    ∷ meanwhile there (record { call = Tick 0; time = 1200; buffer = replicate 244 0 })
     ∷ message back 0x20 (3 ∷ []) (exampleMoment 1250)
-    ∷ meanwhile there (Send 1 0x09 []) (exampleMoment 1350)
+    ∷ meanwhile there (record { call = Send 1 0x09 []; time = 1350; buffer = replicate 244 0 })
     ∷ idle there (exampleMoment 1400)
     ∷ []
 
 -- All go well, at level 4 and at level 2 ..
-pub example-goes-well : All-go-well (exampleNodes 4) 0 0 exampleExchanges × All-go-well (exampleNodes 2) 0 0 exampleExchanges
+pub example-goes-well : All-go-well called (exampleNodes 4) 0 0 exampleExchanges × All-go-well called (exampleNodes 2) 0 0 exampleExchanges
 unfolding called asked settled refusedOutcome accepted boundsAccepted recordAccepted recordInRange endOf inRange isPhase isClosed goodIdle firstRefusal writingStep refusal sendRefusal sendOf sendOut dataAllowed writesData dataTelegram steps.sent become tickRefusal tickOf tickOut ticked runOut watchOver idleDue writesIdle telegrams.idle receivedRefusal receivedOf declaredBy connectAllowed judged passed expectedNow checkOf wordAgrees levelOf quietly taken sealed body checkWord implicit topBits width wordLength generator generator48 generator32 shift feed kindOf isData at pick
 example-goes-well = (
   (
     ((lit< tt, (lit< tt, tt)), record { done = refl; taken = refl; in-time = λ some. lit≤ tt }),
     (
-      early refl (λ some. lit≤ tt) (λ due. let h : 2700 ≤ 2400 = due .half in omega arith),
+      early refl (open-here refl (λ some. lit≤ tt)) (λ five due. let h : 2700 ≤ 2400 = due .half in omega arith),
       (
         ((lit< tt, tt), record { done = refl; taken = refl; in-time = λ some. lit≤ tt }),
         (
@@ -64,7 +65,7 @@ example-goes-well = (
   (
     ((lit< tt, (lit< tt, tt)), record { done = refl; taken = refl; in-time = λ some. lit≤ tt }),
     (
-      early refl (λ some. lit≤ tt) (λ due. let h : 2700 ≤ 2400 = due .half in omega arith),
+      early refl (open-here refl (λ some. lit≤ tt)) (λ five due. let h : 2700 ≤ 2400 = due .half in omega arith),
       (
         ((lit< tt, tt), record { done = refl; taken = refl; in-time = λ some. lit≤ tt }),
         (

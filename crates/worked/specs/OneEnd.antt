@@ -1,7 +1,7 @@
 -- Worked examples of demand 2 at one end: what closes a connection, by which call.
 -- Assumes nothing.
 use mathlib.Core.Path.{refl}
-use mathlib.Core.Bool.{true, false}
+use mathlib.Core.Bool.{Bool, true, false}
 use mathlib.Core.List.{List, [], _∷_}
 use Prim.Native.Nat.{ℕ}
 use lib.ListN.{replicate}
@@ -40,23 +40,27 @@ abbrev pub exampleRequest : List ℕ
 exampleRequest =
     telegramOf (called (Open 0 0x89ABCDEF (record { named = false; time = 0 }) []) (record { own = 9; latest = 0 }) (freshOf 8 3 3 4 ∷ []) 1300 (replicate 244 0))
 
+-- So its record at place 0 is closed, with this reason and finally or not.
+abbrev pub Closes-it : Call → Record → ℕ → ℕ → Bool → Type 0
+Closes-it c r time reason last = Is-closed (exampleCalled c r time) (record { own = 8; latest = 1000 }) (r ∷ []) (replicate 244 0) 0 reason last []
+
 -- At 1501, one after the watch, a tick and any telegram close with 05h; at 6001, one after the wait, a tick closes; and at 1350 the request closes with 04h.
 pub record Examples : Type 0 where
-  pub silence-on-tick : Is-closed (exampleCalled (Tick 0) exampleOpen 1501) 0 0x05 false
-  pub silence-on-receipt : Is-closed (exampleCalled (exampleReceipt 9 (replicate 10 0)) exampleOpen 1501) 0 0x05 false
-  pub no-confirm : Is-closed (exampleCalled (Tick 0) (exampleWaiting 2) 6001) 0 0x02 false
-  pub no-authentication : Is-closed (exampleCalled (Tick 0) (exampleWaiting 3) 6001) 0 0x03 true
-  pub no-acknowledgement : Is-closed (exampleCalled (Tick 0) (exampleWaiting 4) 6001) 0 0x03 true
-  pub set-up-anew : Is-closed (exampleCalled (exampleReceipt 9 exampleRequest) exampleOpen 1350) 0 0x04 false
+  pub silence-on-tick : Closes-it (Tick 0) exampleOpen 1501 0x05 false
+  pub silence-on-receipt : Closes-it (exampleReceipt 9 (replicate 10 0)) exampleOpen 1501 0x05 false
+  pub no-confirm : Closes-it (Tick 0) (exampleWaiting 2) 6001 0x02 false
+  pub no-authentication : Closes-it (Tick 0) (exampleWaiting 3) 6001 0x03 true
+  pub no-acknowledgement : Closes-it (Tick 0) (exampleWaiting 4) 6001 0x03 true
+  pub set-up-anew : Closes-it (exampleReceipt 9 exampleRequest) exampleOpen 1350 0x04 false
 
 pub examples : Examples
 unfolding called asked settled accepted boundsAccepted recordAccepted recordInRange endOf inRange isPhase isClosed goodIdle atRest freshOf become closedBy firstRefusal writingStep refusal openRefusal openOf openOut connectAllowed writesRequest request tickRefusal tickOf tickOut ticked runOut runOutVerdict watchOver waitOver receivedRefusal receivedOf receivedOut declaredBy judged passed expectedNow checkOf wordAgrees levelOf disconnectAllowed goodType listedReason goodDualBus writesDisconnect disconnect sealed body checkWord implicit topBits width wordLength generator generator48 generator32 shift feed kindOf isData pick
 examples =
     record {
-      silence-on-tick = record { says = refl; phase = refl };
-      silence-on-receipt = record { says = refl; phase = refl };
-      no-confirm = record { says = refl; phase = refl };
-      no-authentication = record { says = refl; phase = refl };
-      no-acknowledgement = record { says = refl; phase = refl };
-      set-up-anew = record { says = refl; phase = refl };
+      silence-on-tick = record { says = refl; leaves = refl; writes = refl; size = refl; buffer = refl };
+      silence-on-receipt = record { says = refl; leaves = refl; writes = refl; size = refl; buffer = refl };
+      no-confirm = record { says = refl; leaves = refl; writes = refl; size = refl; buffer = refl };
+      no-authentication = record { says = refl; leaves = refl; writes = refl; size = refl; buffer = refl };
+      no-acknowledgement = record { says = refl; leaves = refl; writes = refl; size = refl; buffer = refl };
+      set-up-anew = record { says = refl; leaves = refl; writes = refl; size = refl; buffer = refl };
     }
