@@ -3,3 +3,5 @@ pub mod Facts
 pub mod Accepted
 pub mod Answers
 pub mod Timers
+pub mod Bound
+pub mod OtherTables

@@ -5,3 +5,4 @@ pub mod Judged
 pub mod Steps
 pub mod Plain
 pub mod Facts
+pub mod Bound
