@@ -4,4 +4,3 @@ pub mod Accepted
 pub mod Answers
 pub mod Timers
 pub mod Bound
-pub mod OtherTables

@@ -1,6 +1,6 @@
 -- What the table says is what is done: after a step the connection is in the next state of its cell, and the step has done what the cell's action says (5.5.1.2
--- to 5.5.1.5). Said of any table, so that one that says otherwise is seen to fail. proofs/Bound.antt and proofs/OtherTables.antt prove each statement under the
--- same name in small letters.
+-- to 5.5.1.5). Said of any table: that no other one binds the steps is shown in crates/wrong. proofs/Bound.antt proves the statement under the same name in small
+-- letters.
 -- Assumes nothing.
 use mathlib.Core.Path.{_≡_}
 use mathlib.Core.Bool.{Bool, true, false}
@@ -199,13 +199,3 @@ pub record Table-binds (table : Row → ℕ → Cell) : Type 0 where
 pub record Table-bound : Type 0 where
   pub binds : Table-binds reading
   pub printed : As-printed
-
--- Two cells of the phase p are alike: the same phase follows, the same is sent, and data are passed on by both or neither.
-pub record Alike (p : ℕ) (c e : Cell) : Type 0 where
-  pub next : leads (c .next) p ≡ leads (e .next) p
-  pub sends : doing (c .action) .sends ≡ doing (e .action) .sends
-  pub passes : doing (c .action) .passes ≡ doing (e .action) .passes
-
--- No other table does: one that binds the steps is alike in every row and phase. So one next state that is changed, anywhere, is seen.
-abbrev pub No-other-table : Type 0
-No-other-table = (table : Row → ℕ → Cell) → Table-binds table → (row : Row) (p : ℕ) → 1 ≤ p → p ≤ 6 → Alike p (table row p) (reading row p)

@@ -27,18 +27,19 @@ use Rattle.telegram.specs.declared.Clause.the-variants as clause
 use Rattle.telegram.specs.declared.Check.the-variants.{Failed}
 use Rattle.telegram.proofs.Taken.{request-taken, confirm-taken, authentication-taken, acknowledgement-taken, disconnect-taken, idle-taken, data-taken}
 use Rattle.telegram.proofs.Apart.{passed}
 use Rattle.link.proofs.Cases.{columns}
 use Rattle.link.proofs.Answers.{answers}
 use Rattle.link.proofs.Bound.{table-bound}
 use Rattle.link.specs.Records.{endOf, isPhase, isClosed, atRest, recordInRange}
 use Rattle.link.specs.Times.{waitOver, watchOver, idleDue}
 use Rattle.link.specs.Table.{Cell, Row, _⇒_, f00, defect, reading, Connect-snd, Data-snd, Timeout-snd, Timeout-rcv, Timeout-brk, Data-rcv, Idle-rcv, Incorrect-rcv-1st, Incorrect-rcv-2nd, ConReq-rcv, ConAck-rcv, AuthReq-rcv, AuthAck-rcv, Discon-snd, FDiscon-snd, Discon-rcv}
 use Rattle.link.specs.Judged.{rowOf, goodVersion, goodNumber, back, expectedNow, runOut}
 use Rattle.link.specs.Steps.{firstRefusal, declaredBy, openRefusal, openOf, openOut, closeRefusal, closeOf, closeOut, sendRefusal, sendOf, sendOut, receivedRefusal, receivedOf, receivedOut, tickRefusal, tickOf, tickOut}
-use Rattle.link.specs.Bound.{Sent, none, connectRequest, connectConfirm, authentication, acknowledgement, dataTelegram, idleTelegram, disconnect, finalDisconnect, numberOf, Stands, ofPhase, Obeys, Keeps, instead, Timer, interval, watch, wait, rowOfTimer, runs, Table-binds, Alike, No-other-table}
+use Rattle.link.specs.Bound.{Sent, none, connectRequest, connectConfirm, authentication, acknowledgement, dataTelegram, idleTelegram, disconnect, finalDisconnect, numberOf, Stands, ofPhase, Obeys, Keeps, instead, Timer, interval, watch, wait, rowOfTimer, runs, Table-binds}
+use Rattle.wrong.specs.OtherTables.{Alike, No-other-table}
 use Rattle.link.specs.declared.Record.{Record}
 use Rattle.link.specs.declared.IdleTime.{IdleTime}
 use Rattle.link.specs.declared.Step.{Step}
 
 -- What a step does, both tables say
 
