@@ -28,6 +28,7 @@ use Rattle.node.specs.Calls.Call.{Received}
 use Rattle.demands.specs.Effects.{Receipt, placeFor, recordFor}
 use Rattle.demands.specs.OneEnd.{Answers-us}
 use Rattle.demands.specs.Demand3.{Two, endAt, No-telegram-for-two-levels, No-telegram-for-two-at-4, No-telegram-for-two-at-2, No-connect-for-two, Wrote, Cards-exchanged, Demand-3, Under-another-route, Cards-exchanged-at-a-node}
+use Rattle.demands.proofs.Passing.{passes-exactly}
 use Rattle.demands.proofs.OneEnd.{opens-only-by-an-answer, data-only-from-a-good-telegram, when-closed, incorrect-closes-here}
 use Rattle.demands.specs.Demand3.Wrote.{request, confirm, authentication, acknowledgement, disconnect, idle, data-telegram}
 
@@ -91,6 +92,7 @@ demand-3 =
       one-number = one-number;
       written-passes = wrote-passes;
       cards-exchanged = cards-exchanged;
+      passes-exactly = passes-exactly;
     }
 
 -- At a node

@@ -10,6 +10,7 @@ pub mod Determined
 pub mod Effects
 pub mod EveryStep
 pub mod OneEnd
+pub mod Passing
 pub mod Law
 pub mod SetUp
 pub mod Steps

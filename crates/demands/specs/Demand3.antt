@@ -10,7 +10,7 @@ use Prim.Native.Nat.{ℕ, _^_, _<_}
 use lib.ListN.{length}
 use Rattle.checkword.specs.Bytes.{Bytes, Within}
 use Rattle.telegram.specs.Commands.{kindOfCommand}
-use Rattle.telegram.specs.Ends.{receiving, mirrored}
+use Rattle.telegram.specs.Ends.{inRange, receiving, mirrored}
 use Rattle.telegram.specs.Writers.{writesRequest, writesConfirm, writesAuthentication, writesAcknowledgement, writesDisconnect, writesIdle, writesData}
 use Rattle.telegram.specs.Writers.Outcome.{wrote}
 use Rattle.telegram.specs.Check.{commandOf, usedFor}
@@ -26,6 +26,7 @@ use Rattle.node.specs.declared.Head.{Head}
 use Rattle.node.specs.Accepted.{recordAt, accepted}
 use Rattle.node.specs.Calls.{Link}
 use Rattle.demands.specs.Pairs.{Listens}
+use Rattle.demands.specs.Passing.{Telegram-of}
 use Rattle.demands.specs.Effects.{nothing, closing, Receipt, takes, placeFor, recordFor, Receipt-does}
 
 -- Two different records of an accepted table.
@@ -96,6 +97,14 @@ Cards-exchanged check =
     (h : Head) (t : List Record) (i j m n : ℕ) (telegram : List ℕ) → Bytes telegram → Two h t i j → recordAt t j .level ≡ 4
     → Wrote (mirrored (endAt h t i)) n telegram → check (endAt h t j) m telegram ≡ Passes → ⊥
 
+-- A check passes exactly the telegrams that there are, as the mirrored end sends them: of a list of bytes, for an end in range; for no other end does it pass
+-- anything. So it asks no less and no more than 5.1 and 5.2 do, and there is no other way past it.
+abbrev pub Passes-exactly : Checking → Type 0
+Passes-exactly check =
+    (e : End) (expected : ℕ) (telegram : List ℕ) → Bytes telegram
+    → (check e expected telegram ≡ Passes → (inRange e ≡ true) × Telegram-of (mirrored e) expected telegram)
+    × (inRange e ≡ true → Telegram-of (mirrored e) expected telegram → check e expected telegram ≡ Passes)
+
 -- All of demand 3 over tables.
 pub record Demand-3 (check : Checking) : Type 0 where
   pub one-level : No-telegram-for-two-levels check
@@ -105,6 +114,7 @@ pub record Demand-3 (check : Checking) : Type 0 where
   pub one-number : One-number check
   pub written-passes : Written-passes check
   pub cards-exchanged : Cards-exchanged check
+  pub passes-exactly : Passes-exactly check
 
 -- And what a node does then: a telegram that the partner of the record at place i wrote, under the number n, comes under the route of another record, of level 4.
 pub record Under-another-route (x : Receipt) (i n : ℕ) : Type 0 where

@@ -8,6 +8,7 @@ pub mod Determined
 pub mod Effects
 pub mod EveryStep
 pub mod OneEnd
+pub mod Passing
 pub mod Law
 pub mod SetUp
 pub mod Unique
