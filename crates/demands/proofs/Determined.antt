@@ -38,8 +38,9 @@ use Rattle.demands.specs.Effects.{Effect, Does, Receipt, takes, placeFor
 use Rattle.demands.specs.Demand1.{Demand-1}
 use Rattle.demands.specs.OneEnd.{Looks-at, Good-request, Awaiting, Returns-ours, Answer-awaited, For-an-open, Demand-2-one-end}
 use Rattle.demands.specs.OneEnd.Looks-at.{tick, receipt}
-use Rattle.demands.specs.Determined.{Demands-determine-the-link}
+use Rattle.demands.specs.Determined.{Demands-determine-the-link, Demand-3-determines-what-passes}
 use Rattle.demands.proofs.Carried.{carried}
+use Rattle.demands.proofs.Passing.{passes-exactly}
 use Rattle.demands.proofs.OneEnd.{kind-known, unknown-is-not, demand-2-one-end}
 
 -- Decisions
@@ -388,3 +389,12 @@ demands-determine-the-link link one two c h t time d = by (same-number (called c
     by : Either-way (Done (called c h t time d)) → link c h t time d ≡ called c h t time d
     by (inl done) = done-agrees link one (two .one-step .isolation .others-unchanged) (two .one-end) c h t time d done
     by (inr other) = refused-agree link one (two .one-step .isolation .others-unchanged) (two .one-end) c h t time d other
+
+-- Both pass exactly the telegrams that there are.
+pub demand-3-determines-what-passes : Demand-3-determines-what-passes
+demand-3-determines-what-passes check three e n t bytes =
+    let theirs = three .passes-exactly e n t bytes in
+    let ours = passes-exactly e n t bytes in (
+      λ p. let q = theirs .0 p in ours .1 (q .0) (q .1),
+      λ p. let q = ours .0 p in theirs .1 (q .0) (q .1),
+    )
