@@ -12,7 +12,7 @@ use lib.ListN.{length, take, drop, getD, length-take, length-drop, take-append-d
 use lib.Seq.{drop-cons, drop-drop, take-add}
 use lib.Dec.{leb, eqb, lit<}
 use borrow.Author.Tests.{leb-true, le-leb, eqb-true, eq-eqb, ne-eqb}
-use Rattle.checkword.specs.Bytes.{Bytes, number, bytesOf}
+use Rattle.checkword.specs.Bytes.{Bytes, bytesOf}
 use Rattle.checkword.proofs.Bytes.{bytes-take, bytes-drop, bytesOf-number}
 use Rattle.ground.specs.Choice.{pick}
 use Rattle.ground.specs.Numbers.{lowestFirst, numberAt}
