@@ -1,8 +1,7 @@
 -- Demand 3 determines what passes, so a check that passes one telegram that ours doesn't, or the other way round, does not meet it. Each telegram is computed: from
 -- node 9 to node 8, between SAP 3 and SAP 3 at level 2, under the number 0, with the check word that its bytes have.
 -- Assumes nothing.
-use mathlib.Core.Path.{_≡_, refl, ap, _∙_}
-use mathlib.Core.Bool.{Bool, true}
+use mathlib.Core.Path.{_≡_, refl, ap}
 use mathlib.Core.List.{List, [], _∷_}
 use Prim.Native.Nat.{ℕ, zero, suc, _<_}
 use native.Mathlib.Omega.{arith}
