@@ -32,11 +32,11 @@ use Rattle.node.specs.Calls.{Call, Left, Link, placeOf, refusedOutcome, called}
 use Rattle.node.specs.Calls.Call.{Open, Close, Send, Received, Tick}
 use Rattle.node.specs.Facts.{Others-unchanged}
 use Rattle.node.proofs.Facts.{first-answered, refused-changes-nothing, done-sets-the-time, others-unchanged}
-use Rattle.demands.specs.Pairs.{Done, In-time, Due}
+use Rattle.demands.specs.Pairs.{Done, In-time, Listens, Due}
 use Rattle.demands.specs.Pairs.Listens.{set-up, open-here}
 use Rattle.demands.specs.Effects.{Effect, Does, Receipt, takes, placeFor, recordFor, Passing, kindOf, Receipt-does}
 use Rattle.demands.specs.Demand1.{Demand-1}
-use Rattle.demands.specs.OneEnd.{Looks-at, Good-request, Awaiting, Returns-ours, Answer-awaited, For-an-open, Demand-2-one-end}
+use Rattle.demands.specs.OneEnd.{Looks-at, Late-closes, Good-request, Awaiting, Returns-ours, Answer-awaited, For-an-open, Sets-up-anew, Demand-2-one-end}
 use Rattle.demands.specs.OneEnd.Looks-at.{tick, receipt}
 use Rattle.demands.specs.Determined.{Demands-determine-the-link, Demand-3-determines-what-passes}
 use Rattle.demands.proofs.Carried.{carried}
@@ -177,11 +177,15 @@ module _ (link : Link) (first : Demand-1 link) (others : Others-unchanged link) 
     ticks-by : (x : Effect) → (Done (link (Tick i) h t time d) → Does (link (Tick i) h t time d) d i x) → (Done (called (Tick i) h t time d) → Does (called (Tick i) h t time d) d i x) → Ticks
     ticks-by x f g = effect-agrees (Tick i) h t time d done i x refl f g
 
-    -- nothing to do yet
-    early-tick : (2 ≤ r .phase) → (r .phase ≤ 4) → time ≤ r .«sent_at» + 5000 → Ticks
-    early-tick low high ok =
-        ticks-by _ (ends .ticks-in-time .early h t i time d (set-up low high ok) (λ p. absurd (omega arith)))
-        (demand-2-one-end .ticks-in-time .early h t i time d (set-up low high ok) (λ p. absurd (omega arith)))
+    -- an answer awaited
+    waiting-tick : (phase reason : ℕ) (last : Bool) → Late-closes link phase reason last → Late-closes called phase reason last → 2 ≤ phase → phase ≤ 4 → r .phase ≡ phase → Ticks
+    waiting-tick phase reason last theirs ours low high p = by (later (r .«sent_at» + 5000) time)
+      where
+        by : (r .«sent_at» + 5000 < time) ⊎ (time ≤ r .«sent_at» + 5000) → Ticks
+        by (inl over) = ticks-by _ (theirs (Tick i) h t i time d (tick refl) p over) (ours (Tick i) h t i time d (tick refl) p over)
+        by (inr ok) =
+            let listens : Listens r time = set-up (omega arith) (omega arith) ok in
+            ticks-by _ (ends .ticks-in-time .early h t i time d listens (λ five. absurd (omega arith))) (demand-2-one-end .ticks-in-time .early h t i time d listens (λ five. absurd (omega arith)))
 
     open-tick : r .phase ≡ 5 → Ticks
     open-tick p = watch (same-number (r .watched) 0) (later (r .«taken_at» + r .watched) time)
@@ -210,26 +214,9 @@ module _ (link : Link) (first : Demand-1 link) (others : Others-unchanged link) 
     tick-agrees low high =
         phases (λ (q : ℕ). r .phase ≡ q → Ticks) (r .phase) low high
         (λ p. ticks-by _ (ends .ticks-in-time .closed h t i time d p) (demand-2-one-end .ticks-in-time .closed h t i time d p))
-        (λ p. late p (later (r .«sent_at» + 5000) time))
-        (λ p. late₃ p (later (r .«sent_at» + 5000) time))
-        (λ p. late₄ p (later (r .«sent_at» + 5000) time)) open-tick refl
-      where
-        late : r .phase ≡ 2 → (r .«sent_at» + 5000 < time) ⊎ (time ≤ r .«sent_at» + 5000) → Ticks
-        late p (inl over) =
-            ticks-by _ (ends .late-answer-closes .confirm (Tick i) h t i time d (tick refl) p over) (demand-2-one-end .late-answer-closes .confirm (Tick i) h t i time d (tick refl) p over)
-        late p (inr ok) = early-tick (omega arith) (omega arith) ok
-
-        late₃ : r .phase ≡ 3 → (r .«sent_at» + 5000 < time) ⊎ (time ≤ r .«sent_at» + 5000) → Ticks
-        late₃ p (inl over) =
-            ticks-by _ (ends .late-answer-closes .authentication (Tick i) h t i time d (tick refl) p over)
-            (demand-2-one-end .late-answer-closes .authentication (Tick i) h t i time d (tick refl) p over)
-        late₃ p (inr ok) = early-tick (omega arith) (omega arith) ok
-
-        late₄ : r .phase ≡ 4 → (r .«sent_at» + 5000 < time) ⊎ (time ≤ r .«sent_at» + 5000) → Ticks
-        late₄ p (inl over) =
-            ticks-by _ (ends .late-answer-closes .acknowledgement (Tick i) h t i time d (tick refl) p over)
-            (demand-2-one-end .late-answer-closes .acknowledgement (Tick i) h t i time d (tick refl) p over)
-        late₄ p (inr ok) = early-tick (omega arith) (omega arith) ok
+        (waiting-tick 2 0x02 false (ends .late-answer-closes .confirm) (demand-2-one-end .late-answer-closes .confirm) (omega arith) (omega arith))
+        (waiting-tick 3 0x03 true (ends .late-answer-closes .authentication) (demand-2-one-end .late-answer-closes .authentication) (omega arith) (omega arith))
+        (waiting-tick 4 0x03 true (ends .late-answer-closes .acknowledgement) (demand-2-one-end .late-answer-closes .acknowledgement) (omega arith) (omega arith)) open-tick refl
 
   -- A receipt
 
@@ -268,98 +255,92 @@ module _ (link : Link) (first : Demand-1 link) (others : Others-unchanged link) 
         by (inr a) b v = drop (λ good. a (good .passes))
 
     -- incorrect, or a disconnect of the partner: in all the other phases
-    module _ (low : 2 ≤ q .phase) (high : q .phase ≤ 4) (ok : x .time ≤ q .«sent_at» + 5000) where
-      incorrect-takes : (Passing x → ⊥) → Takes
-      incorrect-takes n = takes-by _ (ends .incorrect-closes-here x (set-up low high ok) n) (demand-2-one-end .incorrect-closes-here x (set-up low high ok) n)
+    incorrect-takes : Listens q (x .time) → (Passing x → ⊥) → Takes
+    incorrect-takes listens n = takes-by _ (ends .incorrect-closes-here x listens n) (demand-2-one-end .incorrect-closes-here x listens n)
 
-      disconnect-takes : Passing x → kindOf x ≡ kind.Disconnect → Takes
-      disconnect-takes a k = takes-by _ (ends .partner-closes-here x (set-up low high ok) a k) (demand-2-one-end .partner-closes-here x (set-up low high ok) a k)
+    disconnect-takes : Listens q (x .time) → Passing x → kindOf x ≡ kind.Disconnect → Takes
+    disconnect-takes listens a k = takes-by _ (ends .partner-closes-here x listens a k) (demand-2-one-end .partner-closes-here x listens a k)
 
-    -- a confirm awaited
-    confirm-takes : q .phase ≡ 2 → Takes
-    confirm-takes p = wait (later (q .«sent_at» + 5000) (x .time))
+    -- an answer awaited: late, or in time
+    waiting-takes : (phase reason : ℕ) (last : Bool) → Late-closes link phase reason last → Late-closes called phase reason last → q .phase ≡ phase
+        → (Awaiting q (x .time) phase → Takes) → Takes
+    waiting-takes phase reason last theirs ours p in-time = by (later (q .«sent_at» + 5000) (x .time))
       where
-        by : x .time ≤ q .«sent_at» + 5000 → Either-way (Passing x) → Either-way (kindOf x ≡ kind.Confirm) → Either-way (kindOf x ≡ kind.Disconnect)
+        by : (q .«sent_at» + 5000 < x .time) ⊎ (x .time ≤ q .«sent_at» + 5000) → Takes
+        by (inl over) =
+            takes-by _ (theirs c (x .head) (x .table) (placeFor x) (x .time) (x .buffer) looks p over) (ours c (x .head) (x .table) (placeFor x) (x .time) (x .buffer) looks p over)
+        by (inr ok) = in-time (record { phase-is = p; in-time = ok })
+
+    -- a confirm
+    confirm-takes : Awaiting q (x .time) 2 → Takes
+    confirm-takes w = by passing? (same-kind (kindOf x) kind.Confirm) (same-kind (kindOf x) kind.Disconnect) (true-or-false (goodVersion (x .telegram)))
+      where
+        listens : Listens q (x .time)
+        listens = let p = w .phase-is in set-up (omega arith) (omega arith) (w .in-time)
+
+        by : Either-way (Passing x) → Either-way (kindOf x ≡ kind.Confirm) → Either-way (kindOf x ≡ kind.Disconnect)
             → (goodVersion (x .telegram) ≡ true) ⊎ (goodVersion (x .telegram) ≡ false) → Takes
-        by ok (inr n) k l v = incorrect-takes (omega arith) (omega arith) ok n
-        by ok (inl a) (inl k) l (inl v) =
-            let w : Awaiting q (x .time) 2 = record { phase-is = p; in-time = ok } in
-            takes-by _ (ends .confirm-awaited .authenticates x w a k v) (demand-2-one-end .confirm-awaited .authenticates x w a k v)
-        by ok (inl a) (inl k) l (inr v) =
-            let w : Awaiting q (x .time) 2 = record { phase-is = p; in-time = ok } in
-            takes-by _ (ends .confirm-awaited .other-version x w a k v) (demand-2-one-end .confirm-awaited .other-version x w a k v)
-        by ok (inl a) (inr k) (inl l) v = disconnect-takes (omega arith) (omega arith) ok a l
-        by ok (inl a) (inr k) (inr l) v =
-            let w : Awaiting q (x .time) 2 = record { phase-is = p; in-time = ok } in
-            takes-by _ (ends .confirm-awaited .ignores x w a k l) (demand-2-one-end .confirm-awaited .ignores x w a k l)
+        by (inr n) k l v = incorrect-takes listens n
+        by (inl a) (inl k) l (inl v) = takes-by _ (ends .confirm-awaited .authenticates x w a k v) (demand-2-one-end .confirm-awaited .authenticates x w a k v)
+        by (inl a) (inl k) l (inr v) = takes-by _ (ends .confirm-awaited .other-version x w a k v) (demand-2-one-end .confirm-awaited .other-version x w a k v)
+        by (inl a) (inr k) (inl l) v = disconnect-takes listens a l
+        by (inl a) (inr k) (inr l) v = takes-by _ (ends .confirm-awaited .ignores x w a k l) (demand-2-one-end .confirm-awaited .ignores x w a k l)
 
-        wait : (q .«sent_at» + 5000 < x .time) ⊎ (x .time ≤ q .«sent_at» + 5000) → Takes
-        wait (inl over) =
-            takes-by _ (ends .late-answer-closes .confirm c (x .head) (x .table) (placeFor x) (x .time) (x .buffer) looks p over)
-            (demand-2-one-end .late-answer-closes .confirm c (x .head) (x .table) (placeFor x) (x .time) (x .buffer) looks p over)
-        wait (inr ok) = by ok passing? (same-kind (kindOf x) kind.Confirm) (same-kind (kindOf x) kind.Disconnect) (true-or-false (goodVersion (x .telegram)))
-
-    -- an authentication or an acknowledgement awaited
-    answer-takes : (phase n : ℕ) (k : Kind) (right : Receipt → Effect) → Answer-awaited link phase n k right → Answer-awaited called phase n k right → 3 ≤ phase → phase ≤ 4 → q .phase ≡ phase
-        → x .time ≤ q .«sent_at» + 5000 → Takes
-    answer-takes phase n k right ours theirs low high p ok =
+    -- an authentication or an acknowledgement
+    answer-takes : (phase n : ℕ) (k : Kind) (right : Receipt → Effect) → Answer-awaited link phase n k right → Answer-awaited called phase n k right → 3 ≤ phase → phase ≤ 4
+        → Awaiting q (x .time) phase → Takes
+    answer-takes phase n k right theirs ours low high w =
         by passing? (same-kind (kindOf x) k) (same-kind (kindOf x) kind.Disconnect) (same-number (authenticationOf (x .telegram)) (authenticationNumber (q .level) (back n (q .sending))))
       where
-        w : Awaiting q (x .time) phase
-        w = record { phase-is = p; in-time = ok }
+        listens : Listens q (x .time)
+        listens = let p = w .phase-is in set-up (omega arith) (omega arith) (w .in-time)
 
         by : Either-way (Passing x) → Either-way (kindOf x ≡ k) → Either-way (kindOf x ≡ kind.Disconnect) → Either-way (Returns-ours x n) → Takes
-        by (inr none) b l v = incorrect-takes (omega arith) (omega arith) ok none
-        by (inl a) (inl b) l (inl v) = takes-by _ (ours .answers x w a b v) (theirs .answers x w a b v)
-        by (inl a) (inl b) l (inr v) = takes-by _ (ours .wrong-number x w a b v) (theirs .wrong-number x w a b v)
-        by (inl a) (inr b) (inl l) v = disconnect-takes (omega arith) (omega arith) ok a l
-        by (inl a) (inr b) (inr l) v = takes-by _ (ours .another x w a b l) (theirs .another x w a b l)
-
-    authentication-takes : q .phase ≡ 3 → Takes
-    authentication-takes p = wait (later (q .«sent_at» + 5000) (x .time))
-      where
-        wait : (q .«sent_at» + 5000 < x .time) ⊎ (x .time ≤ q .«sent_at» + 5000) → Takes
-        wait (inl over) =
-            takes-by _ (ends .late-answer-closes .authentication c (x .head) (x .table) (placeFor x) (x .time) (x .buffer) looks p over)
-            (demand-2-one-end .late-answer-closes .authentication c (x .head) (x .table) (placeFor x) (x .time) (x .buffer) looks p over)
-        wait (inr ok) = answer-takes 3 1 kind.Authentication _ (ends .authentication-awaited) (demand-2-one-end .authentication-awaited) (omega arith) (omega arith) p ok
-
-    acknowledgement-takes : q .phase ≡ 4 → Takes
-    acknowledgement-takes p = wait (later (q .«sent_at» + 5000) (x .time))
-      where
-        wait : (q .«sent_at» + 5000 < x .time) ⊎ (x .time ≤ q .«sent_at» + 5000) → Takes
-        wait (inl over) =
-            takes-by _ (ends .late-answer-closes .acknowledgement c (x .head) (x .table) (placeFor x) (x .time) (x .buffer) looks p over)
-            (demand-2-one-end .late-answer-closes .acknowledgement c (x .head) (x .table) (placeFor x) (x .time) (x .buffer) looks p over)
-        wait (inr ok) = answer-takes 4 2 kind.Acknowledgement _ (ends .acknowledgement-awaited) (demand-2-one-end .acknowledgement-awaited) (omega arith) (omega arith) p ok
+        by (inr none) b l v = incorrect-takes listens none
+        by (inl a) (inl b) l (inl v) = takes-by _ (theirs .answers x w a b v) (ours .answers x w a b v)
+        by (inl a) (inl b) l (inr v) = takes-by _ (theirs .wrong-number x w a b v) (ours .wrong-number x w a b v)
+        by (inl a) (inr b) (inl l) v = disconnect-takes listens a l
+        by (inl a) (inr b) (inr l) v = takes-by _ (theirs .another x w a b l) (ours .another x w a b l)
 
     -- open
     open-takes : q .phase ≡ 5 → Takes
     open-takes p = watch (same-number (q .watched) 0) (later (q .«taken_at» + q .watched) (x .time))
       where
-        by : In-time q (x .time) → Either-way (Passing x) → (k : Kind) → kindOf x ≡ k → Takes
-        by ok (inr n) k e = takes-by _ (ends .incorrect-closes-here x (open-here p ok) n) (demand-2-one-end .incorrect-closes-here x (open-here p ok) n)
-        by ok (inl a) kind.Request e = let o : For-an-open x = record { open-here = p; in-time = ok } in takes-by _ (ends .when-open .set-up-anew x o a (inl e)) (demand-2-one-end .when-open .set-up-anew x o a (inl e))
-        by ok (inl a) kind.Confirm e = let o : For-an-open x = record { open-here = p; in-time = ok } in takes-by _ (ends .when-open .set-up-anew x o a (inr (inl e))) (demand-2-one-end .when-open .set-up-anew x o a (inr (inl e)))
-        by ok (inl a) kind.Authentication e =
-            let o : For-an-open x = record { open-here = p; in-time = ok } in takes-by _ (ends .when-open .set-up-anew x o a (inr (inr (inl e)))) (demand-2-one-end .when-open .set-up-anew x o a (inr (inr (inl e))))
-        by ok (inl a) kind.Acknowledgement e =
-            let o : For-an-open x = record { open-here = p; in-time = ok } in takes-by _ (ends .when-open .set-up-anew x o a (inr (inr (inr e)))) (demand-2-one-end .when-open .set-up-anew x o a (inr (inr (inr e))))
-        by ok (inl a) kind.Disconnect e = takes-by _ (ends .partner-closes-here x (open-here p ok) a e) (demand-2-one-end .partner-closes-here x (open-here p ok) a e)
-        by ok (inl a) kind.Idle e = let o : For-an-open x = record { open-here = p; in-time = ok } in takes-by _ (ends .when-open .takes-idle x o a e) (demand-2-one-end .when-open .takes-idle x o a e)
-        by ok (inl a) kind.Data e = let o : For-an-open x = record { open-here = p; in-time = ok } in takes-by _ (ends .when-open .hands-up x o a e) (demand-2-one-end .when-open .hands-up x o a e)
-        by ok (inl a) kind.Unknown e = absurd (unknown-is-not (subst (λ (k : Kind). known k ≡ true) e (kind-known x a)))
+        anew : For-an-open x → Passing x → Sets-up-anew (kindOf x) → Takes
+        anew o a k = takes-by _ (ends .when-open .set-up-anew x o a k) (demand-2-one-end .when-open .set-up-anew x o a k)
+
+        taken : For-an-open x → Passing x → (k : Kind) → kindOf x ≡ k → Takes
+        taken o a kind.Request e = anew o a (inl e)
+        taken o a kind.Confirm e = anew o a (inr (inl e))
+        taken o a kind.Authentication e = anew o a (inr (inr (inl e)))
+        taken o a kind.Acknowledgement e = anew o a (inr (inr (inr e)))
+        taken o a kind.Disconnect e = disconnect-takes (open-here p (o .in-time)) a e
+        taken o a kind.Idle e = takes-by _ (ends .when-open .takes-idle x o a e) (demand-2-one-end .when-open .takes-idle x o a e)
+        taken o a kind.Data e = takes-by _ (ends .when-open .hands-up x o a e) (demand-2-one-end .when-open .hands-up x o a e)
+        taken o a kind.Unknown e = absurd (unknown-is-not (subst (λ (k : Kind). known k ≡ true) e (kind-known x a)))
+
+        by : In-time q (x .time) → Either-way (Passing x) → Takes
+        by ok (inr n) = incorrect-takes (open-here p ok) n
+        by ok (inl a) = taken (record { open-here = p; in-time = ok }) a (kindOf x) refl
 
         watch : Either-way (q .watched ≡ 0) → (q .«taken_at» + q .watched < x .time) ⊎ (x .time ≤ q .«taken_at» + q .watched) → Takes
-        watch (inl none) l = by (λ some. absurd (some none)) passing? (kindOf x) refl
+        watch (inl none) l = by (λ some. absurd (some none)) passing?
         watch (inr some) (inl over) =
             takes-by _ (ends .silence-closes-here c (x .head) (x .table) (placeFor x) (x .time) (x .buffer) looks p some over)
             (demand-2-one-end .silence-closes-here c (x .head) (x .table) (placeFor x) (x .time) (x .buffer) looks p some over)
-        watch (inr some) (inr ok) = by (λ some. ok) passing? (kindOf x) refl
+        watch (inr some) (inr ok) = by (λ some. ok) passing?
 
     receipt-agrees : 1 ≤ q .phase → q .phase ≤ 5 → Takes
     receipt-agrees low high =
-        phases (λ (y : ℕ). q .phase ≡ y → Takes) (q .phase) low high closed-takes confirm-takes authentication-takes acknowledgement-takes open-takes refl
+        phases (λ (y : ℕ). q .phase ≡ y → Takes) (q .phase) low high closed-takes
+        (λ p. waiting-takes 2 0x02 false (ends .late-answer-closes .confirm) (demand-2-one-end .late-answer-closes .confirm) p confirm-takes)
+        (λ p.
+        waiting-takes 3 0x03 true (ends .late-answer-closes .authentication) (demand-2-one-end .late-answer-closes .authentication) p
+        (answer-takes 3 1 kind.Authentication _ (ends .authentication-awaited) (demand-2-one-end .authentication-awaited) (omega arith) (omega arith)))
+        (λ p.
+        waiting-takes 4 0x03 true (ends .late-answer-closes .acknowledgement) (demand-2-one-end .late-answer-closes .acknowledgement) p
+        (answer-takes 4 2 kind.Acknowledgement _ (ends .acknowledgement-awaited) (demand-2-one-end .acknowledgement-awaited) (omega arith) (omega arith)))
+        open-takes refl
 
   -- Any call that is done
 

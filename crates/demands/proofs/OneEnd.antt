@@ -44,7 +44,7 @@ use Rattle.demands.specs.Pairs.{Done, Made, made, In-time, Listens}
 use Rattle.demands.specs.Pairs.Listens.{set-up, open-here}
 use Rattle.demands.specs.Effects.{Effect, Does, Receipt, takes, recordFor, Passing, kindOf}
 use Rattle.demands.specs.Demand2.{Is-closed}
-use Rattle.demands.specs.OneEnd.{Looks-at, Silence-closes-here, Late-answer-closes, Ticks-in-time, Good-request, When-closed, Awaiting, Confirm-awaited, Answer-awaited, acknowledged, opened, For-an-open, When-open, Incorrect-closes-here, Partner-closes-here, Calls-of-ours, Answers-us, By-an-answer, Opens-only-by-an-answer, From-a-good-telegram, Data-only-from-a-good-telegram, Never-reopens, Demand-2-one-end}
+use Rattle.demands.specs.OneEnd.{Looks-at, Silence-closes-here, Late-closes, Late-answer-closes, Ticks-in-time, Good-request, When-closed, Awaiting, Confirm-awaited, Answer-awaited, acknowledged, opened, For-an-open, When-open, Incorrect-closes-here, Partner-closes-here, Calls-of-ours, Answers-us, By-an-answer, Opens-only-by-an-answer, From-a-good-telegram, Data-only-from-a-good-telegram, Never-reopens, Demand-2-one-end}
 use Rattle.demands.specs.OneEnd.Looks-at.{tick, receipt}
 use Rattle.demands.proofs.Carried.{carried, stepIn}
 use Rattle.demands.proofs.Effects.{effectOf, left-by, receipt-does, receipt-at, tick-does, open-does, send-does, close-does}
@@ -88,16 +88,17 @@ waited-out r own time q reason last p low high over cell =
       on-receipt = λ telegram. by-the-table .waited r own time telegram waiting out .0 ∙ ap (ruled Timeout-brk) p ∙ cell;
     }
 
+late-closes : (q reason : ℕ) (last : Bool) → 2 ≤ q → q ≤ 4 → ruled Timeout-brk q ≡ Closes reason last → Late-closes called q reason last
+late-closes q reason last low high cell c h t i time d looks p over done =
+    looking-closes c h t i time d reason last looks (waited-out (recordAt t i) (h .own) time q reason last p low high over cell) done
+
 pub late-answer-closes : Late-answer-closes called
 unfolding pick
 late-answer-closes =
     record {
-      confirm = λ c h t i time d looks p over done.
-          looking-closes c h t i time d 0x02 false looks (waited-out (recordAt t i) (h .own) time 2 0x02 false p (omega arith) (omega arith) over refl) done;
-      authentication = λ c h t i time d looks p over done.
-          looking-closes c h t i time d 0x03 true looks (waited-out (recordAt t i) (h .own) time 3 0x03 true p (omega arith) (omega arith) over refl) done;
-      acknowledgement = λ c h t i time d looks p over done.
-          looking-closes c h t i time d 0x03 true looks (waited-out (recordAt t i) (h .own) time 4 0x03 true p (omega arith) (omega arith) over refl) done;
+      confirm = late-closes 2 0x02 false (omega arith) (omega arith) refl;
+      authentication = late-closes 3 0x03 true (omega arith) (omega arith) refl;
+      acknowledgement = late-closes 4 0x03 true (omega arith) (omega arith) refl;
     }
 
 -- timers that have not run out

@@ -3,7 +3,7 @@
 -- finally closed stays so.
 -- Assumes nothing.
 use mathlib.Core.Path.{_≡_}
-use mathlib.Core.Bool.{true, false}
+use mathlib.Core.Bool.{Bool, true, false}
 use mathlib.Core.List.{List, []}
 use mathlib.Core.Logic.{_⊎_}
 use Prim.Native.Nat.{ℕ, _+_, _≤_, _<_}
@@ -47,15 +47,17 @@ Silence-closes-here link =
     (c : Call) (h : Head) (t : List Record) (i time : ℕ) (d : List ℕ) → Looks-at c t i → recordAt t i .phase ≡ 5 → (recordAt t i .watched ≡ 0 → ⊥)
     → recordAt t i .«taken_at» + recordAt t i .watched < time → Done (link c h t time d) → Is-closed (link c h t time d) h t d i 0x05 false []
 
--- More than 5,000 after the last sending, it closes one that awaits its partner's answer: a confirm (2) with 02h and not finally (5.2.5.7.2); an
--- authentication (3) or an acknowledgement (4) with 03h and finally (5.2.5.8.3).
+-- More than 5,000 after the last sending, it closes a connection that awaits an answer in this phase, with this reason, finally or not.
+abbrev pub Late-closes : Link → ℕ → ℕ → Bool → Type 0
+Late-closes link phase reason last =
+    (c : Call) (h : Head) (t : List Record) (i time : ℕ) (d : List ℕ) → Looks-at c t i → recordAt t i .phase ≡ phase → recordAt t i .«sent_at» + 5000 < time
+    → Done (link c h t time d) → Is-closed (link c h t time d) h t d i reason last []
+
+-- A confirm that is late (2) closes with 02h and not finally (5.2.5.7.2); an authentication (3) or an acknowledgement (4) with 03h and finally (5.2.5.8.3).
 pub record Late-answer-closes (link : Link) : Type 0 where
-  pub confirm : (c : Call) (h : Head) (t : List Record) (i time : ℕ) (d : List ℕ) → Looks-at c t i → recordAt t i .phase ≡ 2 → recordAt t i .«sent_at» + 5000 < time
-      → Done (link c h t time d) → Is-closed (link c h t time d) h t d i 0x02 false []
-  pub authentication : (c : Call) (h : Head) (t : List Record) (i time : ℕ) (d : List ℕ) → Looks-at c t i → recordAt t i .phase ≡ 3
-      → recordAt t i .«sent_at» + 5000 < time → Done (link c h t time d) → Is-closed (link c h t time d) h t d i 0x03 true []
-  pub acknowledgement : (c : Call) (h : Head) (t : List Record) (i time : ℕ) (d : List ℕ) → Looks-at c t i → recordAt t i .phase ≡ 4
-      → recordAt t i .«sent_at» + 5000 < time → Done (link c h t time d) → Is-closed (link c h t time d) h t d i 0x03 true []
+  pub confirm : Late-closes link 2 0x02 false
+  pub authentication : Late-closes link 3 0x03 true
+  pub acknowledgement : Late-closes link 4 0x03 true
 
 -- Before that, a tick writes the idle telegram that is due on an open connection (5.2.6.2), and else does nothing; on a closed one it never does anything.
 pub record Ticks-in-time (link : Link) : Type 0 where
