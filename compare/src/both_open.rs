@@ -14,7 +14,8 @@ use crate::tally::Tally;
 use crate::telegram::{End, Kind};
 use crate::wrong_node::{leaves, sees_table, unchanged, Wrong};
 
-/// When the first end opens, how long a wait lasts (7.2), and how long a telegram is on its way.
+/// When the first end opens, how long a wait lasts (7.2), and how long a telegram is on its way. The first's request is
+/// held back until the other has opened too.
 const BEGIN: u64 = 1000;
 const WAIT: u64 = 5000;
 const WAY: u64 = 2;

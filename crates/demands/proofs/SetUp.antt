@@ -2,13 +2,13 @@
 -- numbers on both sides are those after the two random numbers. What the nodes do between leaves the two records as they are.
 -- Assumes nothing.
 use mathlib.Core.Path.{_≡_, refl, sym, ap, subst, _∙_}
-use mathlib.Core.Bool.{true, false}
+use mathlib.Core.Bool.{Bool, true, false}
 use mathlib.Core.List.{List, [], _∷_}
 use Prim.Native.Nat.{ℕ, _+_, _^_, _≤_, _<_}
 use native.Mathlib.Omega.{arith}
 use lib.ListN.{length, getD}
 use lib.Dec.{eqb, lit≤}
-use borrow.Author.Tests.{eq-eqb, ne-eqb, le-leb, le-ltb}
+use borrow.Author.Tests.{eq-eqb, ne-eqb, eqb-true, eqb-false, le-leb, le-ltb}
 use Rattle.ground.specs.Choice.{pick, all}
 use Rattle.telegram.specs.Ends.{mirrored}
 use Rattle.telegram.specs.Layout.{values}
@@ -34,12 +34,13 @@ use Rattle.link.specs.declared.Verdict.the-variants.{Confirm, Authenticate, Ack
 use Rattle.link.proofs.Facts.{by-the-table}
 use Rattle.node.specs.declared.Head.{Head}
 use Rattle.node.specs.Accepted.{recordAt, accepted}
-use Rattle.node.specs.Calls.{Call, Left, called}
+use Rattle.node.specs.Heads.{at}
+use Rattle.node.specs.Calls.{Call, Left, refusedOutcome, called}
 use Rattle.node.specs.Calls.Call.{Open, Received}
-use Rattle.node.proofs.Facts.{others-unchanged, stays-accepted}
+use Rattle.node.proofs.Facts.{refused-changes-nothing, done-sets-the-time, others-unchanged, stays-accepted}
 use Rattle.demands.specs.Pairs.{Mirror, telegramOf, Done, Made, made, headAfter, tableAfter, All-nothing-to}
 use Rattle.demands.specs.Effects.{Does, asking, Receipt, takes}
-use Rattle.demands.specs.SetUp.{Given, Parties, here, there, arriving, headThen, tableThen, asks, confirms, authenticates, acknowledges, opens, Undisturbed, set-up, Fits, Demand-2-set-up, Set-up-is-done, Demand-2-from-the-request}
+use Rattle.demands.specs.SetUp.{Given, Parties, here, there, arriving, headThen, tableThen, asks, confirms, authenticates, acknowledges, opens, Undisturbed, set-up, Fits, Until, Demand-2-set-up, Set-up-is-done, Demand-2-from-the-request}
 use Rattle.demands.proofs.Carried.{carried, done-by}
 use Rattle.demands.proofs.Effects.{told, effectOf, receipt-at, open-does, call-wrote, receipt-wrote}
 use Rattle.demands.proofs.Demand2.{own-kept, mirror-place, received-done, watching}
@@ -73,6 +74,27 @@ meanwhile h t i own r (m ∷ ms) x (y, ys) =
 good-after : (h : Head) (t : List Record) (ms : List Made) → accepted h t ≡ true → accepted (headAfter called h t ms) (tableAfter called h t ms) ≡ true
 good-after h t [] good = good
 good-after h t (m ∷ ms) good = good-after (made called h t m .outcome .head) (made called h t m .table) ms (stays-accepted (m .call) h t (m .time) (m .buffer) good)
+
+-- and no clock goes back: the latest time is that of a call that was done
+made-latest : (h : Head) (t : List Record) (m : Made) (time : ℕ) → h .latest ≤ time → m .time ≤ time → made called h t m .outcome .head .latest ≤ time
+unfolding at refusedOutcome
+made-latest h t m time before now = by (eqb (made called h t m .outcome .answer .number) 0) refl
+  where
+    by : (b : Bool) → eqb (made called h t m .outcome .answer .number) 0 ≡ b → made called h t m .outcome .head .latest ≤ time
+    by true f = rw (done-sets-the-time (m .call) h t (m .time) (m .buffer) (eqb-true _ 0 f)) now
+    by false f = rw (refused-changes-nothing (m .call) h t (m .time) (m .buffer) (eqb-false _ 0 f) .0) before
+
+latest-after : (h : Head) (t : List Record) (ms : List Made) (time : ℕ) → h .latest ≤ time → Until time ms → headAfter called h t ms .latest ≤ time
+latest-after h t [] time before z = before
+latest-after h t (m ∷ ms) time before (now, rest) =
+    latest-after (made called h t m .outcome .head) (made called h t m .table) ms time (made-latest h t m time before now) rest
+
+-- so what fits behind a call that was done still fits behind those after it
+fits-after : (c : Call) (h : Head) (t : List Record) (time : ℕ) (d : List ℕ) (ms : List Made) (level : ℕ) (g : Given) → Done (called c h t time d) → Until (g .time) ms → Fits time level g
+    → Fits (headThen called (called c h t time d) ms .latest) level g
+unfolding at
+fits-after c h t time d ms level g done until f =
+    record { room = f .room; timely = latest-after _ _ ms (g .time) (rw (done-sets-the-time c h t time d done) (f .timely)) until; allowed = f .allowed }
 
 -- A telegram taken by a node with the record q at place j, by a verdict: what it does, what the node has then, and that the verdict's writer wrote.
 record Taking (x : Receipt) (j b : ℕ) (q : Record) (v : Verdict) : Type 0 where
@@ -355,12 +377,12 @@ set-up-is-done p s fit =
     good-after (confirms called p .outcome .head) (confirms called p .table) (p .while-confirming) (stays-accepted _ (p .head′) (p .table′) (p .second .time) (p .second .out) (fit .table-there)) in
     let authenticated =
     is-done (confirms called p) (b p) (there p) _ _ (p .third) (p .i) (a p) (r₁ p) (waits-for-confirm p s asked) (back-to-here p s) good₁ (confirm-there p s asked confirmed 0) (λ e. omega arith)
-    (rw (same-level p s) (fit .third)) in
+    (rw (same-level p s) (fits-after _ (p .head) (p .table) (p .first .time) (p .first .out) (p .while-asking) (here p .level) (p .third) asked (fit .until-third) (fit .third))) in
     let good₃ =
     good-after (authenticates called p .outcome .head) (authenticates called p .table) (p .while-authenticating) (stays-accepted _ _ _ (p .third .time) (p .third .out) good₁) in
     let acknowledged =
     is-done (authenticates called p) (a p) (here p) _ _ (p .fourth) (p .j) (b p) (q₁ p) (waits-for-authentication p s asked confirmed) (s .mirror) good₂ (authentication-there p s asked confirmed authenticated)
-    (λ e. omega arith) (fit .fourth) in
+    (λ e. omega arith) (fits-after _ (p .head′) (p .table′) (p .second .time) (p .second .out) (p .while-confirming) (here p .level) (p .fourth) confirmed (fit .until-fourth) (fit .fourth)) in
     record {
       asked = asked;
       confirmed = confirmed;
@@ -368,7 +390,8 @@ set-up-is-done p s fit =
       acknowledged = acknowledged;
       opened =
           is-done (acknowledges called p) (b p) (there p) _ _ (p .fifth) (p .i) (a p) (r₂ p) (waits-for-acknowledgement p s asked confirmed authenticated) (back-to-here p s) good₃
-          (acknowledgement-there p s asked confirmed authenticated acknowledged) (λ e. omega arith) (rw (same-level p s) (fit .fifth));
+          (acknowledgement-there p s asked confirmed authenticated acknowledged) (λ e. omega arith)
+          (rw (same-level p s) (fits-after _ _ _ (p .third .time) (p .third .out) (p .while-authenticating) (here p .level) (p .fifth) authenticated (fit .until-fifth) (fit .fifth)));
     }
 
 pub demand-2-from-the-request : Demand-2-from-the-request called

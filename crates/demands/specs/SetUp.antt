@@ -3,7 +3,7 @@
 -- Assumes nothing.
 use mathlib.Core.Path.{_≡_}
 use mathlib.Core.Bool.{true}
-use mathlib.Core.List.{List}
+use mathlib.Core.List.{List, [], _∷_}
 use Prim.Native.Nat.{ℕ, _+_, _^_, _≤_, _<_}
 use lib.ListN.{length}
 use Rattle.checkword.specs.Bytes.{Bytes}
@@ -140,27 +140,35 @@ pub record Both-open (link : Link) (p : Parties) : Type 0 where
 abbrev pub Demand-2-set-up : Link → Type 0
 Demand-2-set-up link = (p : Parties) → Undisturbed link p → All-done link p → Both-open link p
 
--- What a call must be given to be done: room for the longest telegram, a time that is not before the node's latest, and values that are allowed at this level.
-pub record Fits (latest level : ℕ) (g : Given) : Type 0 where
+-- What a call must be given to be done: room for the longest telegram, a time that is not before this one, and values that are allowed at this level.
+pub record Fits (earlier level : ℕ) (g : Given) : Type 0 where
   pub room : 244 ≤ length (g .out)
-  pub timely : latest ≤ g .time
+  pub timely : earlier ≤ g .time
   pub allowed : connectAllowed (declaredBy (g .idle-time)) (length (g .net)) level ≡ true
 
--- Both tables are accepted, the opener's record is there and closed too, and each of the five calls is given what fits.
-pub record All-fit (link : Link) (p : Parties) : Type 0 where
+-- None of these calls is later than a time.
+abbrev pub Until : ℕ → List Made → Type 0
+Until time [] = Unit {0}
+Until time (m ∷ ms) = (m .time ≤ time) × Until time ms
+
+-- Both tables are accepted, the opener's record is there and closed too, each of the five calls is given what fits, and no clock goes back.
+pub record All-fit (p : Parties) : Type 0 where
   pub table-here : accepted (p .head) (p .table) ≡ true
   pub table-there : accepted (p .head′) (p .table′) ≡ true
   pub place-here : p .i < length (p .table)
   pub closed-here : here p .phase ≡ 1
   pub first : Fits (p .head .latest) (here p .level) (p .first)
   pub second : Fits (p .head′ .latest) (here p .level) (p .second)
-  pub third : Fits (headThen link (asks link p) (p .while-asking) .latest) (here p .level) (p .third)
-  pub fourth : Fits (headThen link (confirms link p) (p .while-confirming) .latest) (here p .level) (p .fourth)
-  pub fifth : Fits (headThen link (authenticates link p) (p .while-authenticating) .latest) (here p .level) (p .fifth)
+  pub third : Fits (p .first .time) (here p .level) (p .third)
+  pub fourth : Fits (p .second .time) (here p .level) (p .fourth)
+  pub fifth : Fits (p .third .time) (here p .level) (p .fifth)
+  pub until-third : Until (p .third .time) (p .while-asking)
+  pub until-fourth : Until (p .fourth .time) (p .while-confirming)
+  pub until-fifth : Until (p .fifth .time) (p .while-authenticating)
 
 -- Then nothing refuses the set-up.
 abbrev pub Set-up-is-done : Link → Type 0
-Set-up-is-done link = (p : Parties) → Undisturbed link p → All-fit link p → All-done link p
+Set-up-is-done link = (p : Parties) → Undisturbed link p → All-fit p → All-done link p
 
 -- From the request on: after a set-up, whatever is exchanged comes up.
 abbrev pub Demand-2-from-the-request : Link → Type 0

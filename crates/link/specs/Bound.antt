@@ -1,5 +1,5 @@
 -- What the table says is what is done: after a step the connection is in the next state of its cell, and the step has done what the cell's action says (5.5.1.2
--- to 5.5.1.5). Said of any table: that no other one binds the steps is shown in crates/wrong. proofs/Bound.antt proves the statement under the same name in small
+-- to 5.5.1.5). Said of any table: that none with another next state binds the steps is shown in crates/wrong. proofs/Bound.antt proves the statement under the same name in small
 -- letters.
 -- Assumes nothing.
 use mathlib.Core.Path.{_≡_}

@@ -24,10 +24,10 @@ use Rattle.link.specs.Judged.{judged, ticked, passed, expectedNow, runOut, good
 use Rattle.link.specs.Steps.{firstRefusal, writingStep, openRefusal, openOf, openOut, receivedRefusal, receivedOf, receivedOut, tickRefusal, tickOf, declaredBy, quietly}
 use Rattle.node.specs.Heads.{at}
 use Rattle.node.specs.Accepted.{recordAt, accepted, boundsAccepted, recordAccepted}
-use Rattle.node.specs.Calls.{Call, called, asked, settled}
-use Rattle.node.specs.Calls.Call.{Open, Tick}
+use Rattle.node.specs.Calls.{Call, refusedOutcome, called, asked, settled}
+use Rattle.node.specs.Calls.Call.{Open, Send, Tick}
 use Rattle.demands.specs.Pairs.{Made}
-use Rattle.demands.specs.Pairs.Nothing-to.{elsewhere, early}
+use Rattle.demands.specs.Pairs.Nothing-to.{elsewhere, refused, early}
 use Rattle.demands.specs.Pairs.Listens.{set-up}
 use Rattle.demands.specs.SetUp.{Given, Parties, tableThen, asks, Undisturbed, All-done, All-fit}
 
@@ -104,17 +104,18 @@ example-sets-up = (
   ),
 )
 
--- At level 4 again: while node 8 awaits the confirm it asks node 10 too, at 1005, and ticks at 1015, where the wait has not run out; node 9 ticks at 1025, and
--- node 8 again at 1035.
+-- At level 4 again: while node 8 awaits the confirm it is refused a sending for a place that its table has not, at 1003, asks node 10 too, at 1005, and ticks at
+-- 1015, where the wait has not run out; node 9 ticks at 1025, and node 8 again at 1035.
 abbrev pub exampleBusy : Parties
 exampleBusy =
-    exampleParties 4 0x01234567 0x89ABCDEF (exampleMade (Open 1 5 (record { named = false; time = 0 }) []) 1005 ∷ exampleMade (Tick 0) 1015 ∷ []) (exampleMade (Tick 0) 1025 ∷ [])
+    exampleParties 4 0x01234567 0x89ABCDEF
+    (exampleMade (Send 2 0x09 []) 1003 ∷ exampleMade (Open 1 5 (record { named = false; time = 0 }) []) 1005 ∷ exampleMade (Tick 0) 1015 ∷ []) (exampleMade (Tick 0) 1025 ∷ [])
     (exampleMade (Tick 0) 1035 ∷ [])
 
 -- Then too nothing disturbs it, and all that is given fits; and the call for node 10 was done: a confirm is awaited of it.
-pub example-fits : (Undisturbed called exampleBusy × All-fit called exampleBusy)
+pub example-fits : (Undisturbed called exampleBusy × All-fit exampleBusy)
     × (recordAt (tableThen called (asks called exampleBusy) (exampleBusy .while-asking)) 1 .phase ≡ 2)
-unfolding called asked settled accepted boundsAccepted recordAccepted recordInRange endOf inRange isPhase isClosed goodIdle firstRefusal writingStep refusal openRefusal openOf openOut connectAllowed writesRequest request become receivedRefusal receivedOf receivedOut declaredBy judged passed expectedNow runOut checkOf wordAgrees levelOf quietly sealed body checkWord implicit topBits width wordLength generator generator48 generator32 shift feed kindOf writesConfirm confirm writesAuthentication authentication writesAcknowledgement acknowledgement added goodVersion goodNumber goodDualBus waitOver at atRest freshOf ticked tickRefusal tickOf pick
+unfolding refusedOutcome called asked settled accepted boundsAccepted recordAccepted recordInRange endOf inRange isPhase isClosed goodIdle firstRefusal writingStep refusal openRefusal openOf openOut connectAllowed writesRequest request become receivedRefusal receivedOf receivedOut declaredBy judged passed expectedNow runOut checkOf wordAgrees levelOf quietly sealed body checkWord implicit topBits width wordLength generator generator48 generator32 shift feed kindOf writesConfirm confirm writesAuthentication authentication writesAcknowledgement acknowledgement added goodVersion goodNumber goodDualBus waitOver at atRest freshOf ticked tickRefusal tickOf pick
 example-fits = (
   (
     record {
@@ -128,7 +129,10 @@ example-fits = (
       confirmed-in-time = lit≤ tt;
       authenticated-in-time = lit≤ tt;
       acknowledged-in-time = lit≤ tt;
-      while-asking = (elsewhere (λ e. omega arith), (early refl (set-up (lit≤ tt) (lit≤ tt) (lit≤ tt)) (λ five due. omega arith), tt));
+      while-asking = (
+        refused (λ done. let n : _≡_ {A = ℕ} 2 0 = done in omega arith),
+        (elsewhere (λ e. omega arith), (early refl (set-up (lit≤ tt) (lit≤ tt) (lit≤ tt)) (λ five due. omega arith), tt)),
+      );
       while-confirming = (early refl (set-up (lit≤ tt) (lit≤ tt) (lit≤ tt)) (λ five due. omega arith), tt);
       while-authenticating = (early refl (set-up (lit≤ tt) (lit≤ tt) (lit≤ tt)) (λ five due. omega arith), tt);
     },
@@ -142,6 +146,9 @@ example-fits = (
       third = record { room = lit≤ tt; timely = lit≤ tt; allowed = refl };
       fourth = record { room = lit≤ tt; timely = lit≤ tt; allowed = refl };
       fifth = record { room = lit≤ tt; timely = lit≤ tt; allowed = refl };
+      until-third = (lit≤ tt, (lit≤ tt, (lit≤ tt, tt)));
+      until-fourth = (lit≤ tt, tt);
+      until-fifth = (lit≤ tt, tt);
     },
   ),
   refl,
