@@ -22,7 +22,7 @@ use Rattle.telegram.specs.Ends.{isLevel, inRange, implicit, mirrored}
 use Rattle.telegram.specs.NetData.{netPart, netData}
 use Rattle.telegram.specs.Telegrams as telegrams
 use Rattle.telegram.specs.Telegrams.{sealed, body, checkWord}
-use Rattle.telegram.specs.Writers.{refusal, connectAllowed, disconnectAllowed, dataAllowed, writesRequest, writesConfirm, writesDisconnect, writesIdle, writesData}
+use Rattle.telegram.specs.Writers.{refusal, connectAllowed, disconnectAllowed, dataAllowed, writesRequest, writesConfirm, writesAuthentication, writesAcknowledgement, writesDisconnect, writesIdle, writesData}
 use Rattle.telegram.specs.Check.{commandOf, checkOf, wordAgrees, answerNumber}
 use Rattle.telegram.specs.declared.End.{End}
 use Rattle.telegram.specs.declared.Clause.the-variants as clause
@@ -32,7 +32,7 @@ use Rattle.link.specs.Records.{endOf, recordInRange, isPhase, isClosed, atRest,
 use Rattle.link.specs.Times.{waitOver, watchOver, idleDue}
 use Rattle.link.specs.Judged.{rowOf, ruled, narrowed, checkedBy, judged, passed, expectedNow, runOut, runOutVerdict, ticked, goodVersion, goodNumber}
 use Rattle.link.specs.Steps as steps
-use Rattle.link.specs.Steps.{firstRefusal, writingStep, declaredBy, quietly, taken, openRefusal, openOf, closeRefusal, closeOf, sendRefusal, sendOf, sendOut, receivedRefusal, receivedOf, receivedOut, tickRefusal, tickOf, tickOut}
+use Rattle.link.specs.Steps.{firstRefusal, writingStep, declaredBy, quietly, taken, openRefusal, openOf, openOut, closeRefusal, closeOf, sendRefusal, sendOf, sendOut, receivedRefusal, receivedOf, receivedOut, tickRefusal, tickOf, tickOut}
 use Rattle.link.specs.Plain.{happened}
 use Rattle.link.specs.declared.Record.{Record}
 use Rattle.link.specs.declared.IdleTime.{IdleTime}
@@ -56,7 +56,7 @@ use Rattle.demands.specs.Demand3.{Two, Wrote}
 use Rattle.demands.specs.Demand3.Wrote.{idle}
 use Rattle.demands.specs.OneEnd.{By-an-answer}
 use Rattle.demands.specs.OneEnd.Looks-at.{tick, receipt}
-use Rattle.wrong.specs.WrongLinks.{judging, numbered, numberedBy, Numbering-by-our-number-is-ours, Passing-everything-is-shut-out, Passing-nothing-is-shut-out, Checking-by-our-word-is-ours, Constant-word-is-shut-out, Constant-word-passes-for-two, Addresses-from-the-frame-are-shut-out, Only-byte-1-compared-is-shut-out, Refusing-everything-is-shut-out, Saying-the-same-is-shut-out, Leaving-the-same-is-shut-out, Leaving-table-and-buffer-idle-is-shut-out, Working-for-the-first-only-is-shut-out, Judging-by-our-rules-is-ours, Own-idle-time-watched-is-shut-out, Wait-of-5000-or-more-is-shut-out, Never-sending-idle-is-shut-out, Taking-what-comes-too-late-is-shut-out, Authentication-plus-1-at-both-levels-is-shut-out, Wrong-number-by-05-is-shut-out, Opening-by-any-number-is-shut-out, Closing-without-a-disconnect-is-shut-out, Writing-a-constant-word-is-shut-out, Exchanged-SAPs-are-shut-out, Number-not-advanced-is-shut-out, Net-data-one-byte-further-are-shut-out, Open-at-the-confirm-is-shut-out, Reopening-is-shut-out, Closing-never-finally-is-shut-out, Record-by-place-is-shut-out, Record-by-place-and-frame-is-shut-out, Touching-the-neighbour-is-shut-out, Another-order-is-shut-out, Time-set-by-a-refusal-is-shut-out, Wrong-ones-are-shut-out}
+use Rattle.wrong.specs.WrongLinks.{judging, numbered, numberedBy, Numbering-by-our-number-is-ours, Passing-everything-is-shut-out, Passing-nothing-is-shut-out, Checking-by-our-word-is-ours, Constant-word-is-shut-out, Constant-word-passes-for-two, Addresses-from-the-frame-are-shut-out, Only-byte-1-compared-is-shut-out, Refusing-everything-is-shut-out, Saying-the-same-is-shut-out, Leaving-the-same-is-shut-out, One-outcome-always-is-shut-out, Leaving-table-and-buffer-idle-is-shut-out, Working-for-the-first-only-is-shut-out, Judging-by-our-rules-is-ours, Own-idle-time-watched-is-shut-out, Wait-of-5000-or-more-is-shut-out, Never-sending-idle-is-shut-out, Taking-what-comes-too-late-is-shut-out, Authentication-plus-1-at-both-levels-is-shut-out, Two-with-plus-1-open, Wrong-number-by-05-is-shut-out, Opening-by-any-number-is-shut-out, Closing-without-a-disconnect-is-shut-out, Writing-a-constant-word-is-shut-out, Two-with-a-constant-word-open, Exchanged-SAPs-are-shut-out, Two-with-exchanged-SAPs-open, Number-not-advanced-is-shut-out, Net-data-one-byte-further-are-shut-out, Open-at-the-confirm-is-shut-out, Reopening-is-shut-out, Closing-never-finally-is-shut-out, Record-by-place-is-shut-out, Record-by-place-and-frame-is-shut-out, Touching-the-neighbour-is-shut-out, Another-order-is-shut-out, Time-set-by-a-refusal-is-shut-out, Wrong-ones-are-shut-out}
 
 -- Checks
 
@@ -147,13 +147,13 @@ addresses-from-the-frame-are-shut-out frame d = by (inRange framed) refl
     by false e =
         fails (Refused 1) (rw e at (d .written-passes (end9 4) 0 (telegrams.idle (end9 4) 0) idle-of-9)) (λ z. omega arith)
 
+-- The idle telegram with the number 0 passes at 0, and at 256 too.
 pub only-byte-1-compared-is-shut-out : Only-byte-1-compared-is-shut-out
-unfolding writesIdle telegrams.idle sealed body checkWord implicit topBits width wordLength generator generator32 shift feed refusal inRange levelOf kindOf isData pick
+unfolding checkOf wordAgrees checkWord implicit width wordLength generator generator32 shift feed inRange levelOf kindOf isData pick
 only-byte-1-compared-is-shut-out d =
-    let passes = d .written-passes (end9 2) 0 (0x00 ∷ 0x06 ∷ 0x88 ∷ 0xA4 ∷ 0xC2 ∷ 0xBF ∷ []) (idle (replicate 244 0) refl) in
     let same : _≡_ {A = ℕ} 0 256 =
     d .one-number (mirrored (end9 2)) 0 256 (0x00 ∷ 0x06 ∷ 0x88 ∷ 0xA4 ∷ 0xC2 ∷ 0xBF ∷ []) (lit< tt, (lit< tt, (lit< tt, (lit< tt, (lit< tt, (lit< tt, tt))))))
-    (λ e. let z : _≡_ {A = ℕ} 0 1 = cc in absurd (omega arith)) (λ e. let z : _≡_ {A = ℕ} 0 1 = cc in absurd (omega arith)) (lit< tt) (lit< tt) passes passes in
+    (λ e. let z : _≡_ {A = ℕ} 0 1 = cc in absurd (omega arith)) (λ e. let z : _≡_ {A = ℕ} 0 1 = cc in absurd (omega arith)) (lit< tt) (lit< tt) refl refl in
     omega arith
 
 -- Links that don't work
@@ -204,6 +204,15 @@ pub leaving-the-same-is-shut-out : Leaving-the-same-is-shut-out
 leaving-the-same-is-shut-out l d =
     let none : length (l .table) ≡ 0 = d .one-step .isolation .others-unchanged .count (Tick 0) head [] 0 [] in
     let one : length (l .table) ≡ 1 = d .one-step .isolation .others-unchanged .count (Tick 0) head (nowhere ∷ []) 0 [] in
+    omega arith
+
+-- A sending writes a data telegram (7), and a tick on a closed record none.
+pub one-outcome-always-is-shut-out : One-outcome-always-is-shut-out
+unfolding dataAllowed isData wordLength freshOf become pick
+one-outcome-always-is-shut-out o d =
+    let done : o .answer .number ≡ 0 = d .one-step .nothing-refused .by-send nodes 0 0 0x09 [] (moment 100) tt (connected .towards) nothing-wrong refl .0 in
+    let seven : o .answer .telegram ≡ 7 = d .one-end .calls-of-ours .sends 0 0x09 [] head (nodes .table) 0 room done .writes in
+    let none : o .answer .telegram ≡ 0 = d .one-end .ticks-in-time .closed head (freshOf 9 3 3 2 ∷ []) 0 0 room refl done .writes in
     omega arith
 
 -- After a sending the sending number is 1.
@@ -263,13 +272,19 @@ never-sending-idle-is-shut-out d =
 abbrev from : ℕ → List ℕ → Call
 from sender telegram = Received (record { sender = sender; «destination_sap» = 3; «source_sap» = 3 }) 0 unnamed telegram []
 
--- Ten bytes of 0, which no check passes, come 501 after the last telegram: that they are incorrect is said, and not that they are late.
+-- Data 09h of node 9 with the net byte 1, which pass the check, come 501 after the last telegram, with a watch of 500: they are handed up (2), where the
+-- connection is to be closed (3).
+abbrev data-of-9 : List ℕ
+data-of-9 = 0x00 ∷ 0x09 ∷ 0x01 ∷ 0x9C ∷ 0x93 ∷ 0x97 ∷ 0xD2 ∷ []
+
 pub taking-what-comes-too-late-is-shut-out : Taking-what-comes-too-late-is-shut-out
-unfolding called asked settled accepted boundsAccepted recordAccepted recordInRange endOf inRange isPhase isClosed goodIdle firstRefusal freshOf become pick receivedRefusal declaredBy connectAllowed expectedNow checkOf levelOf kindOf isData wordLength runOutVerdict disconnectAllowed goodType listedReason writesDisconnect writingStep refusal closedBy
+unfolding called asked settled accepted boundsAccepted recordAccepted recordInRange endOf inRange isPhase isClosed goodIdle firstRefusal freshOf become pick receivedRefusal declaredBy connectAllowed passed expectedNow checkOf levelOf kindOf isData wordAgrees checkWord implicit width wordLength generator generator32 shift feed quietly taken
 taking-what-comes-too-late-is-shut-out d =
-    other-reason _ _
-    (d .one-end .silence-closes-here (from 9 (replicate 10 0)) head (at-2 9 5 0 0 500 ∷ []) 0 501 room
-    (receipt (record { sender = 9; «destination_sap» = 3; «source_sap» = 3 }) 0 unnamed (replicate 10 0) [] refl refl) refl (λ e. omega arith) (lit< tt) refl .says) (λ z. omega arith)
+    let z : _≡_ {A = ℕ} 2 3 =
+    ap (λ (x : Event). happened x .event)
+    (d .one-end .silence-closes-here (from 9 data-of-9) head (at-2 9 5 0 0 500 ∷ []) 0 501 room
+    (receipt (record { sender = 9; «destination_sap» = 3; «source_sap» = 3 }) 0 unnamed data-of-9 [] refl refl) refl (λ e. omega arith) (lit< tt) refl .says) in
+    omega arith
 
 pub numbering-by-our-number-is-ours : Numbering-by-our-number-is-ours
 unfolding judged passed
@@ -312,6 +327,10 @@ pub authentication-plus-1-at-both-levels-is-shut-out : Authentication-plus-1-at-
 unfolding called asked settled accepted boundsAccepted recordAccepted recordInRange endOf inRange isPhase isClosed goodIdle firstRefusal freshOf become pick receivedRefusal declaredBy connectAllowed runOut waitOver expectedNow checkOf levelOf kindOf isData wordAgrees checkWord implicit width wordLength generator generator32 shift feed added quietly taken
 authentication-plus-1-at-both-levels-is-shut-out d = opened-by-1 _ d refl
 
+pub two-with-plus-1-open : Two-with-plus-1-open
+unfolding called asked settled accepted boundsAccepted recordAccepted recordInRange endOf inRange isPhase isClosed goodIdle firstRefusal freshOf become pick atRest at openRefusal openOf openOut receivedRefusal declaredBy connectAllowed runOut waitOver expectedNow checkOf levelOf kindOf isData wordAgrees sealed body topBits checkWord implicit width wordLength generator generator32 shift feed added goodVersion goodDualBus writingStep refusal writesRequest telegrams.request writesConfirm telegrams.confirm writesAuthentication telegrams.authentication writesAcknowledgement telegrams.acknowledgement quietly taken
+two-with-plus-1-open = (refl, refl)
+
 pub opening-by-any-number-is-shut-out : Opening-by-any-number-is-shut-out
 unfolding called asked settled accepted boundsAccepted recordAccepted recordInRange endOf inRange isPhase isClosed goodIdle firstRefusal freshOf become pick receivedRefusal declaredBy connectAllowed runOut waitOver expectedNow checkOf levelOf kindOf isData wordAgrees checkWord implicit width wordLength generator generator32 shift feed quietly taken
 opening-by-any-number-is-shut-out d = opened-by-1 _ d refl
@@ -345,7 +364,7 @@ closing-without-a-disconnect-is-shut-out d =
 
 -- The last bytes of the words of two idle telegrams differ.
 pub writing-a-constant-word-is-shut-out : Writing-a-constant-word-is-shut-out
-unfolding called asked settled accepted boundsAccepted recordAccepted recordInRange endOf inRange isPhase isClosed goodIdle firstRefusal freshOf become pick tickRefusal ticked runOut tickOf tickOut watchOver idleDue writesIdle writingStep refusal steps.sent telegrams.idle sealed body topBits kindOf checkWord implicit width wordLength generator generator32 shift feed
+unfolding called asked settled accepted boundsAccepted recordAccepted recordInRange endOf inRange isPhase isClosed goodIdle firstRefusal freshOf become pick tickRefusal ticked runOut watchOver idleDue writesIdle writingStep refusal steps.sent telegrams.idle sealed body topBits kindOf checkWord implicit width wordLength generator generator32 shift feed
 writing-a-constant-word-is-shut-out w d =
     let a : w / 1 % 256 ≡ 0x6B = ap (λ (l : List ℕ). getD l 5 0) (d .one-end .ticks-in-time .due head (at-2 9 5 0 500 0 ∷ []) 0 250 room refl due refl .buffer) in
     let b : w / 1 % 256 ≡ 0x64 = ap (λ (l : List ℕ). getD l 5 0) (d .one-end .ticks-in-time .due head (at-2 9 5 1 500 0 ∷ []) 0 250 room refl due refl .buffer) in
@@ -353,6 +372,10 @@ writing-a-constant-word-is-shut-out w d =
   where
     due : {sending : ℕ} → Due (at-2 9 5 sending 500 0) 250
     due = record { declares = λ e. omega arith; half = lit≤ tt; in-time = λ some. absurd (some refl) }
+
+pub two-with-a-constant-word-open : Two-with-a-constant-word-open
+unfolding called asked settled accepted boundsAccepted recordAccepted recordInRange endOf inRange isPhase isClosed goodIdle firstRefusal freshOf become pick atRest at openRefusal openOf openOut receivedRefusal declaredBy connectAllowed runOut waitOver passed expectedNow checkOf levelOf kindOf isData wordAgrees sealed body topBits checkWord implicit width wordLength generator generator32 shift feed goodNumber added goodVersion goodDualBus writingStep refusal writesRequest telegrams.request writesConfirm telegrams.confirm writesAuthentication telegrams.authentication writesAcknowledgement telegrams.acknowledgement quietly taken
+two-with-a-constant-word-open = (refl, refl)
 
 -- Data from SAP 4 to SAP 3: the check word begins with E5h, and with exchanged SAPs with 20h.
 pub exchanged-saps-are-shut-out : Exchanged-SAPs-are-shut-out
@@ -362,18 +385,22 @@ exchanged-saps-are-shut-out d =
     ap (λ (l : List ℕ). getD l 2 0) (d .one-end .calls-of-ours .sends 0 0x09 [] head (become (freshOf 9 3 4 2) 5 0 0 0 0 0 0 ∷ []) 0 room refl .buffer) in
     omega arith
 
+pub two-with-exchanged-saps-open : Two-with-exchanged-SAPs-open
+unfolding called asked settled accepted boundsAccepted recordAccepted recordInRange endOf inRange isPhase isClosed goodIdle firstRefusal freshOf become pick atRest at openRefusal openOf openOut receivedRefusal receivedOf receivedOut declaredBy connectAllowed runOut waitOver judged passed expectedNow checkOf levelOf kindOf isData wordAgrees sealed body topBits checkWord implicit width wordLength generator generator32 shift feed goodNumber added goodVersion goodDualBus writingStep refusal writesRequest telegrams.request writesConfirm telegrams.confirm writesAuthentication telegrams.authentication writesAcknowledgement telegrams.acknowledgement quietly taken
+two-with-exchanged-saps-open = (refl, refl)
+
 pub number-not-advanced-is-shut-out : Number-not-advanced-is-shut-out
 unfolding called asked settled accepted boundsAccepted recordAccepted recordInRange endOf inRange isPhase isClosed goodIdle firstRefusal freshOf become pick sendRefusal sendOf sendOut dataAllowed isData writesData writingStep refusal steps.sent wordLength
 number-not-advanced-is-shut-out d =
     let z : _≡_ {A = ℕ} 0 1 = ap (λ (r : Record). r .sending) (d .one-end .calls-of-ours .sends 0 0x09 [] head (nodes .table) 0 room refl .leaves) in omega arith
 
--- Data 09h of node 9 with the net byte 1: the first byte of the check word is handed up.
+-- Of the same data the first byte of the check word is handed up.
 pub net-data-one-byte-further-are-shut-out : Net-data-one-byte-further-are-shut-out
 unfolding called asked settled accepted boundsAccepted recordAccepted recordInRange endOf inRange isPhase isClosed goodIdle firstRefusal freshOf become pick receivedRefusal declaredBy connectAllowed receivedOf judged passed runOut watchOver expectedNow checkOf levelOf kindOf isData wordAgrees checkWord implicit width wordLength generator generator32 shift feed quietly taken netPart netData dataOf
 net-data-one-byte-further-are-shut-out d =
     let z : _≡_ {A = ℕ} 0x9C 0x01 =
     ap (λ (l : List ℕ). getD l 0 0)
-    (d .one-end .net-data-handed-on (record { sender = 9; «destination_sap» = 3; «source_sap» = 3 }) 0 unnamed (0x00 ∷ 0x09 ∷ 0x01 ∷ 0x9C ∷ 0x93 ∷ 0x97 ∷ 0xD2 ∷ []) [] head
+    (d .one-end .net-data-handed-on (record { sender = 9; «destination_sap» = 3; «source_sap» = 3 }) 0 unnamed data-of-9 [] head
     (nodes .table) 0 room refl) in
     omega arith
 
@@ -462,6 +489,7 @@ wrong-ones-are-shut-out =
       refusing-everything = refusing-everything-is-shut-out;
       saying-the-same = saying-the-same-is-shut-out;
       leaving-the-same = leaving-the-same-is-shut-out;
+      one-outcome-always = one-outcome-always-is-shut-out;
       leaving-table-and-buffer-idle = leaving-table-and-buffer-idle-is-shut-out;
       working-for-the-first-only = working-for-the-first-only-is-shut-out;
       own-idle-time-watched = own-idle-time-watched-is-shut-out;
@@ -469,11 +497,14 @@ wrong-ones-are-shut-out =
       never-sending-idle = never-sending-idle-is-shut-out;
       taking-what-comes-too-late = taking-what-comes-too-late-is-shut-out;
       authentication-plus-1-at-both-levels = authentication-plus-1-at-both-levels-is-shut-out;
+      two-with-plus-1-open = two-with-plus-1-open;
       wrong-number-by-05 = wrong-number-by-05-is-shut-out;
       opening-by-any-number = opening-by-any-number-is-shut-out;
       closing-without-a-disconnect = closing-without-a-disconnect-is-shut-out;
       writing-a-constant-word = writing-a-constant-word-is-shut-out;
+      two-with-a-constant-word-open = two-with-a-constant-word-open;
       exchanged-saps = exchanged-saps-are-shut-out;
+      two-with-exchanged-saps-open = two-with-exchanged-saps-open;
       number-not-advanced = number-not-advanced-is-shut-out;
       net-data-one-byte-further = net-data-one-byte-further-are-shut-out;
       open-at-the-confirm = open-at-the-confirm-is-shut-out;

@@ -52,7 +52,7 @@ abbrev pub A-back-door-is-shut-out : Type 0
 A-back-door-is-shut-out =
     (door : End → ℕ → List ℕ → Bool) (e : End) (n : ℕ) (t : List ℕ) → Bytes t → door e n t ≡ true → (checkOf e n t ≡ Passes → ⊥) → Demand-3 (withDoor door) → ⊥
 
--- Too strict: a connect request or confirm passes only with our version, though the check leaves that to the link.
+-- Too strict: a connect request or confirm passes only with our X, though the check leaves the version to the link.
 abbrev pub onlyOurVersion : Checking
 onlyOurVersion e n t = pick (leb (lowOf t) 0x02) (pick (eqb (versionXOf t) 3) (checkOf e n t) (Failed clause.Fields)) (checkOf e n t)
 

@@ -4,23 +4,24 @@
 use mathlib.Core.Path.{_≡_}
 use mathlib.Core.Bool.{Bool, true, false}
 use mathlib.Core.List.{List, [], _∷_, _++_, map}
-use Prim.Native.Nat.{ℕ, _+_, _-_, _%_, _^_, _<_}
-use lib.ListN.{length, take, drop, set}
+use Prim.Native.Nat.{ℕ, _+_, _-_, _^_, _<_}
+use lib.ListN.{length, take, drop, set, replicate}
 use lib.Dec.{leb, eqb}
 use Rattle.checkword.specs.Bytes.{number, bytesOf}
 use Rattle.ground.specs.Choice.{pick, all}
 use Rattle.telegram.specs.Levels.{wordLength}
 use Rattle.telegram.specs.Layout.{onBus}
 use Rattle.telegram.specs.Ends.{inRange}
-use Rattle.telegram.specs.Fields.{authenticationOf}
+use Rattle.telegram.specs.Fields.{randomOf, authenticationOf}
+use Rattle.telegram.specs.Telegrams as telegrams
 use Rattle.telegram.specs.Telegrams.{authenticationNumber}
 use Rattle.telegram.specs.Commands.{kindOfCommand}
-use Rattle.telegram.specs.Check.{commandOf, usedFor, covered, wordAgrees, clauses, firstFailing, checkOf}
+use Rattle.telegram.specs.Check.{commandOf, usedFor, covered, wordAgrees, clauses, firstFailing, checkOf, answerNumber}
 use Rattle.telegram.specs.declared.End.{End}
 use Rattle.telegram.specs.declared.Clause.the-variants as clause
 use Rattle.telegram.specs.declared.Check.{Check}
 use Rattle.telegram.specs.declared.Check.the-variants.{Passes, Failed, Refused}
-use Rattle.link.specs.Records.{endOf, become, closedBy}
+use Rattle.link.specs.Records.{endOf, freshOf, become, closedBy}
 use Rattle.link.specs.Table.{Incorrect-rcv-1st}
 use Rattle.link.specs.Judged.{rowOf, ruled, narrowed, checkedBy, back, goodNumber, expectedNow, runOut, runOutVerdict, judged, ticked}
 use Rattle.link.specs.Steps.{declaredBy, actOf, actOut, unlessStep, unlessOut, receivedRefusal, tickRefusal}
@@ -40,6 +41,7 @@ use Rattle.node.specs.Calls.{Call, Left, Link, placeOf, asked, stepOf, stepOut,
 use Rattle.node.specs.Calls.Call.{Open, Close, Send, Received, Tick}
 use Rattle.demands.specs.Demand1.{Demand-1}
 use Rattle.demands.specs.Demands.{Demand-2}
+use Rattle.demands.specs.SetUp.{Given, Parties, acknowledges, opens}
 use Rattle.demands.specs.Demand3.{Checking, No-telegram-for-two-at-4, Demand-3}
 
 -- Checks
@@ -85,9 +87,9 @@ fromFrame frame e n t =
 abbrev pub Addresses-from-the-frame-are-shut-out : Type 0
 Addresses-from-the-frame-are-shut-out = (frame : End) → Demand-3 (fromFrame frame) → ⊥
 
--- Of the sequence number only byte 1 is compared: a telegram 256 older fits.
+-- Byte 1 of the sequence number decides, and not all 32 bits: beside what passes at the expected number, a telegram 256 older passes too.
 abbrev pub onlyByte1 : Checking
-onlyByte1 e n t = checkOf e (n % 256) t
+onlyByte1 e n t = pick (eqb (answerNumber (checkOf e n t)) 0) Passes (checkOf e (back 256 n) t)
 
 abbrev pub Only-byte-1-compared-is-shut-out : Type 0
 Only-byte-1-compared-is-shut-out = Demand-3 onlyByte1 → ⊥
@@ -110,6 +112,13 @@ always l c h t time d = l
 
 abbrev pub Leaving-the-same-is-shut-out : Type 0
 Leaving-the-same-is-shut-out = (l : Left) → Demand-2 (always l) → ⊥
+
+-- Says the same always, and leaves the table and the buffer that ours leaves.
+abbrev pub oneOutcome : Outcome → Link
+oneOutcome o c h t time d = record { outcome = o; table = called c h t time d .table; out = called c h t time d .out }
+
+abbrev pub One-outcome-always-is-shut-out : Type 0
+One-outcome-always-is-shut-out = (o : Outcome) → Demand-2 (oneOutcome o) → ⊥
 
 -- Says what ours says, and leaves table and buffer idle.
 abbrev pub onlySays : Link
@@ -179,7 +188,7 @@ neverIdle = judging judged (λ r time. pick (runOut r time) (runOutVerdict (r .p
 abbrev pub Never-sending-idle-is-shut-out : Type 0
 Never-sending-idle-is-shut-out = Demand-2 neverIdle → ⊥
 
--- The timers are looked at on a tick only: a telegram that comes too late is taken.
+-- The timers are looked at on a tick only: a telegram that comes too late is taken, and its data are handed up.
 abbrev pub timersOnTicksOnly : Link
 timersOnTicksOnly = judging (λ r own time t. checkedBy (checkOf (endOf r own) (expectedNow r) t) r t) ticked
 
@@ -213,12 +222,65 @@ abbrev pub Numbering-by-our-number-is-ours : Type 0
 Numbering-by-our-number-is-ours =
     (c : Call) (h : Head) (t : List Record) (time : ℕ) (d : List ℕ) → numbering goodNumber (verdict.Close 0x03 true) c h t time d ≡ called c h t time d
 
--- Plus 1 at both levels.
+-- What two nodes say that have the same link and set up a connection, from SAP 4 to SAP 3 at level 2: both are open. Some links below do so, and are wrong all
+-- the same, as ours would not understand them.
+abbrev pub giving : ℕ → Given
+giving random = record { time = 0; out = replicate 244 0; random = random; idle-time = record { named = false; time = 0 }; net = [] }
+
+abbrev pub closedTwo : Parties
+closedTwo =
+    record {
+      head = record { own = 8; latest = 0 };
+      table = freshOf 9 3 4 2 ∷ [];
+      i = 0;
+      head′ = record { own = 9; latest = 0 };
+      table′ = freshOf 8 4 3 2 ∷ [];
+      j = 0;
+      first = giving 0x01234567;
+      second = giving 0x89ABCDEF;
+      third = giving 0;
+      fourth = giving 0;
+      fifth = giving 0;
+      while-asking = [];
+      while-confirming = [];
+      while-authenticating = [];
+    }
+
+abbrev pub Two-open : Link → Type 0
+Two-open link = (acknowledges link closedTwo .outcome .event ≡ event.Opened) × (opens link closedTwo .outcome .event ≡ event.Opened)
+
+-- Plus 1 at both levels, in writing and in testing alike. The test: at either level a number is good that is good at level 4.
+abbrev pub testing1 : Link
+testing1 = numbering (λ r n t. eqb (authenticationOf t) (authenticationNumber 4 (back n (r .sending)))) (verdict.Close 0x03 true)
+
+-- The writing: an authentication (03h) or an acknowledgement (04h) with the number that it has at level 4, over the one that stands in the buffer.
+abbrev pub written1 : Record → ℕ → ℕ → ℕ → List ℕ → List ℕ
+written1 r own low received out =
+    telegrams.telegram (endOf r own) (r .sending) low (authenticationNumber 4 received ∷ []) []
+    ++ drop (length (telegrams.telegram (endOf r own) (r .sending) low (authenticationNumber 4 received ∷ []) [])) out
+
+abbrev pub writing1 : Call → Record → ℕ → ℕ → List ℕ → List ℕ
+writing1 (Received w random i telegram net) r own writes out =
+    pick (eqb writes 3) (written1 r own 0x03 (randomOf telegram) out) (pick (eqb writes 4) (written1 r own 0x04 (back 1 (r .expected)) out) out)
+writing1 (Open place random i net) r own writes out = out
+writing1 (Close place type reason text) r own writes out = out
+writing1 (Send place low net) r own writes out = out
+writing1 (Tick place) r own writes out = out
+
 abbrev pub plus1AtBoth : Link
-plus1AtBoth = numbering (λ r n t. eqb (authenticationOf t) (authenticationNumber 4 (back n (r .sending)))) (verdict.Close 0x03 true)
+plus1AtBoth c h t time d =
+    record {
+      outcome = testing1 c h t time d .outcome;
+      table = testing1 c h t time d .table;
+      out = writing1 c (recordAt t (placeOf c t)) (h .own) (testing1 c h t time d .outcome .answer .telegram) (testing1 c h t time d .out);
+    }
 
 abbrev pub Authentication-plus-1-at-both-levels-is-shut-out : Type 0
 Authentication-plus-1-at-both-levels-is-shut-out = Demand-2 plus1AtBoth → ⊥
+
+-- Two such nodes understand each other.
+abbrev pub Two-with-plus-1-open : Type 0
+Two-with-plus-1-open = Two-open plus1AtBoth
 
 -- A wrong authentication number closes with 05h and not finally.
 abbrev pub wrongNumberBy05 : Link
@@ -250,24 +312,35 @@ silentClosing c h t time d = silenced (called c h t time d) d
 abbrev pub Closing-without-a-disconnect-is-shut-out : Type 0
 Closing-without-a-disconnect-is-shut-out = Demand-2 silentClosing → ⊥
 
--- Each telegram that is written carries the word w, of which it takes as many bytes as its level has.
+-- Each telegram that is written carries the word w, of which it takes as many bytes as its level has; and by these bytes each that is received is checked.
 abbrev pub wordFor : ℕ → ℕ → ℕ → List ℕ → List ℕ
 wordFor w level size out = take (size - wordLength level) out ++ bytesOf (wordLength level) w ++ drop size out
+
+abbrev pub constantChecked : ℕ → Link
+constantChecked w =
+    judging
+    (λ r own time t.
+    pick (runOut r time) (runOutVerdict (r .phase))
+    (checkedBy (constantWord (number (bytesOf (wordLength (r .level)) w)) (endOf r own) (expectedNow r) t) r t)) ticked
 
 abbrev pub constantWritten : ℕ → Link
 constantWritten w c h t time d =
     record {
-      outcome = called c h t time d .outcome;
-      table = called c h t time d .table;
+      outcome = constantChecked w c h t time d .outcome;
+      table = constantChecked w c h t time d .table;
       out =
-          pick (eqb (called c h t time d .outcome .answer .telegram) 0) (called c h t time d .out)
-          (wordFor w (recordAt t (placeOf c t) .level) (called c h t time d .outcome .answer .length) (called c h t time d .out));
+          pick (eqb (constantChecked w c h t time d .outcome .answer .telegram) 0) (constantChecked w c h t time d .out)
+          (wordFor w (recordAt t (placeOf c t) .level) (constantChecked w c h t time d .outcome .answer .length) (constantChecked w c h t time d .out));
     }
 
 abbrev pub Writing-a-constant-word-is-shut-out : Type 0
 Writing-a-constant-word-is-shut-out = (w : ℕ) → Demand-2 (constantWritten w) → ⊥
 
--- SAPs are exchanged in the implicit bytes, in writing and in checking alike: two such nodes would understand each other.
+-- Two such nodes, with one word, understand each other.
+abbrev pub Two-with-a-constant-word-open : Type 0
+Two-with-a-constant-word-open = Two-open (constantWritten 0x01234567)
+
+-- SAPs are exchanged in the implicit bytes, in writing and in checking alike.
 abbrev pub sapsExchanged : Record → Record
 sapsExchanged r =
     record {
@@ -302,6 +375,10 @@ exchanging c h t time d =
 
 abbrev pub Exchanged-SAPs-are-shut-out : Type 0
 Exchanged-SAPs-are-shut-out = Demand-2 exchanging → ⊥
+
+-- Two such nodes understand each other.
+abbrev pub Two-with-exchanged-SAPs-open : Type 0
+Two-with-exchanged-SAPs-open = Two-open exchanging
 
 -- The sending number is not advanced: a call that sends leaves the record as it was.
 abbrev pub recordKept : Call → List Record → List Record → List Record
@@ -447,7 +524,7 @@ timeAlways c h t time d =
 abbrev pub Time-set-by-a-refusal-is-shut-out : Type 0
 Time-set-by-a-refusal-is-shut-out = Demand-1 timeAlways → ⊥
 
--- All of them; and the families from which most are taken have ours among them.
+-- All of them; the families from which most are taken have ours among them; and where the fault is on both sides, two such nodes understand each other.
 pub record Wrong-ones-are-shut-out : Type 0 where
   pub checking-by-our-word-is-ours : Checking-by-our-word-is-ours
   pub judging-by-our-rules-is-ours : Judging-by-our-rules-is-ours
@@ -461,6 +538,7 @@ pub record Wrong-ones-are-shut-out : Type 0 where
   pub refusing-everything : Refusing-everything-is-shut-out
   pub saying-the-same : Saying-the-same-is-shut-out
   pub leaving-the-same : Leaving-the-same-is-shut-out
+  pub one-outcome-always : One-outcome-always-is-shut-out
   pub leaving-table-and-buffer-idle : Leaving-table-and-buffer-idle-is-shut-out
   pub working-for-the-first-only : Working-for-the-first-only-is-shut-out
   pub own-idle-time-watched : Own-idle-time-watched-is-shut-out
@@ -468,11 +546,14 @@ pub record Wrong-ones-are-shut-out : Type 0 where
   pub never-sending-idle : Never-sending-idle-is-shut-out
   pub taking-what-comes-too-late : Taking-what-comes-too-late-is-shut-out
   pub authentication-plus-1-at-both-levels : Authentication-plus-1-at-both-levels-is-shut-out
+  pub two-with-plus-1-open : Two-with-plus-1-open
   pub wrong-number-by-05 : Wrong-number-by-05-is-shut-out
   pub opening-by-any-number : Opening-by-any-number-is-shut-out
   pub closing-without-a-disconnect : Closing-without-a-disconnect-is-shut-out
   pub writing-a-constant-word : Writing-a-constant-word-is-shut-out
+  pub two-with-a-constant-word-open : Two-with-a-constant-word-open
   pub exchanged-saps : Exchanged-SAPs-are-shut-out
+  pub two-with-exchanged-saps-open : Two-with-exchanged-SAPs-open
   pub number-not-advanced : Number-not-advanced-is-shut-out
   pub net-data-one-byte-further : Net-data-one-byte-further-are-shut-out
   pub open-at-the-confirm : Open-at-the-confirm-is-shut-out
