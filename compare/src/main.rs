@@ -1,5 +1,6 @@
-//! Compares the library of proved crates with a second program that is written from the papers. Prints what was compared and how much of it, and fails
-//! where anything differs. With the word `vectors` it runs the published vectors alone, with the word `damage` all cases of damage on the cable alone.
+//! Compares the library of proved crates with a second program that is written from the papers. Prints what was
+//! compared and how much of it, and fails where anything differs. With the word `vectors` it runs the published vectors
+//! alone, with the word `damage` all cases of damage on the cable alone.
 
 mod both_open;
 mod bus;
@@ -114,7 +115,9 @@ fn main() -> ExitCode {
         Some("vectors") => vectors(&mut tally),
         Some("damage") => damage_runs::compare(&mut tally),
         Some(other) => {
-            eprintln!("compare: unknown word '{other}'; there are 'vectors' and 'damage', or nothing for all comparisons");
+            eprintln!(
+                "compare: unknown word '{other}'; there are 'vectors' and 'damage', or nothing for all comparisons"
+            );
             return ExitCode::from(2);
         }
     }

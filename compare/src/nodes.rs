@@ -1,5 +1,5 @@
-//! The node: the library against the second program case by case and on random busses, the cases of the scope by name, and the cases against wrong
-//! nodes.
+//! The node: the library against the second program case by case and on random busses, the cases of the scope by name,
+//! and the cases against wrong nodes.
 
 use crate::node_case::Case;
 use crate::tally::Tally;
@@ -19,7 +19,8 @@ pub fn compare_all(tally: &mut Tally) {
     bus_run::random(tally);
 }
 
-/// Each wrong node is seen by the group named with it: so the comparisons can fail. One that is made in the same way and isn't wrong is seen by none.
+/// Each wrong node is seen by the group named with it: so the comparisons can fail. One that is made in the same way and
+/// isn't wrong is seen by none.
 fn wrong_nodes_are_seen(tally: &mut Tally) {
     let sees = |wrong: &Wrong| (wrong.seen_by)().iter().any(|case| case.sees(&*wrong.program));
     for wrong in wrong_nodes() {

@@ -30,7 +30,7 @@ use Rattle.telegram.proofs.Apart.{passed as passed-check}
 use Rattle.telegram.proofs.Taken.{data-taken, idle-taken, disconnect-taken}
 use Rattle.link.specs.Records.{endOf, recordInRange, become}
 use Rattle.link.specs.Table.{Timeout-snd, Incorrect-rcv-1st}
-use Rattle.link.specs.Times.{gap, watchOver, idleDue}
+use Rattle.link.specs.Times.{gap, waitOver, watchOver, idleDue}
 use Rattle.link.specs.Judged.{rowOf, ruled, narrowed, checkedBy, expectedNow, runOut, runOutVerdict, passed, judged, ticked}
 use Rattle.link.specs.Steps.{firstRefusal, neb, next, taken, sent, declaredBy, tickRefusal, tickOf, tickOut, receivedRefusal, receivedOf, receivedOut, openRefusal}
 use Rattle.link.specs.Plain.{happened}
@@ -91,6 +91,12 @@ in-watch r time ok = by (eqb (r .watched) 0) refl
 pub open-in-time : (r : Record) (time : ℕ) → r .phase ≡ 5 → In-time r time → runOut r time ≡ false
 unfolding runOut watchOver pick
 open-in-time r time p early = rw p (in-watch r time early)
+
+-- nor has that of one that awaits an answer, in time
+pub waits-in-time : (r : Record) (time : ℕ) → 2 ≤ r .phase → r .phase ≤ 4 → time ≤ r .«sent_at» + 5000 → runOut r time ≡ false
+unfolding runOut waitOver pick
+waits-in-time r time low high early =
+    rw (ne-eqb (r .phase) 5 (λ e. omega arith), le-leb 2 (r .phase) low, le-leb (r .phase) 4 high) (le-ltb 5000 (gap (r .«sent_at») time) (omega arith))
 
 -- What arrives
 

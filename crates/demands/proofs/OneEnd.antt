@@ -8,7 +8,7 @@ use mathlib.Core.Logic.{_⊎_, inl, inr}
 use Prim.Native.Nat.{ℕ, _+_, _≤_, _<_}
 use native.Mathlib.Omega.{arith}
 use lib.Dec.{ltb, eqb}
-use borrow.Author.Tests.{eq-eqb, ne-eqb, eqb-true, eqb-false, le-leb, le-ltb, ltb-true, ltb-false, lt-ltb}
+use borrow.Author.Tests.{eq-eqb, ne-eqb, eqb-true, eqb-false, le-leb, ltb-true, ltb-false, lt-ltb}
 use Rattle.ground.specs.Choice.{pick}
 use Rattle.telegram.specs.Fields.{authenticationOf}
 use Rattle.telegram.specs.Commands.{kindOfCommand, known}
@@ -48,7 +48,7 @@ use Rattle.demands.specs.OneEnd.{Looks-at, Silence-closes-here, Late-clo
 use Rattle.demands.specs.OneEnd.Looks-at.{tick, receipt}
 use Rattle.demands.proofs.Carried.{carried, stepIn}
 use Rattle.demands.proofs.Effects.{effectOf, left-by, receipt-does, receipt-at, tick-does, open-does, send-does, close-does}
-use Rattle.demands.proofs.Demand2.{open-in-time, due-sends, expects, watch-ran-out}
+use Rattle.demands.proofs.Demand2.{open-in-time, waits-in-time, due-sends, expects, watch-ran-out}
 use Rattle.demands.proofs.EveryStep.{quiet-tick}
 
 -- Timers
@@ -102,11 +102,6 @@ late-answer-closes =
     }
 
 -- timers that have not run out
-waits-in-time : (r : Record) (time : ℕ) → 2 ≤ r .phase → r .phase ≤ 4 → time ≤ r .«sent_at» + 5000 → runOut r time ≡ false
-unfolding runOut waitOver pick
-waits-in-time r time low high early =
-    rw (ne-eqb (r .phase) 5 (λ e. omega arith), le-leb 2 (r .phase) low, le-leb (r .phase) 4 high) (le-ltb 5000 (gap (r .«sent_at») time) (omega arith))
-
 awaiting-in-time : (r : Record) (time p : ℕ) → 2 ≤ p → p ≤ 4 → Awaiting r time p → runOut r time ≡ false
 awaiting-in-time r time p low high a = let q = a .phase-is in waits-in-time r time (omega arith) (omega arith) (a .in-time)
 

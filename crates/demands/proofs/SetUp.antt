@@ -4,11 +4,11 @@
 use mathlib.Core.Path.{_≡_, refl, sym, ap, subst, _∙_}
 use mathlib.Core.Bool.{Bool, true, false}
 use mathlib.Core.List.{List, [], _∷_}
-use Prim.Native.Nat.{ℕ, _+_, _^_, _≤_, _<_}
+use Prim.Native.Nat.{ℕ, _^_, _≤_, _<_}
 use native.Mathlib.Omega.{arith}
 use lib.ListN.{length, getD}
 use lib.Dec.{eqb, lit≤}
-use borrow.Author.Tests.{eq-eqb, ne-eqb, eqb-true, eqb-false, le-leb, le-ltb}
+use borrow.Author.Tests.{eq-eqb, eqb-true, eqb-false}
 use Rattle.ground.specs.Choice.{pick, all}
 use Rattle.telegram.specs.Ends.{mirrored}
 use Rattle.telegram.specs.Layout.{values}
@@ -23,7 +23,6 @@ use Rattle.telegram.specs.declared.Kind.the-variants as kind
 use Rattle.telegram.proofs.Apart.{passed}
 use Rattle.telegram.proofs.Taken.{request-taken, confirm-taken, authentication-taken, acknowledgement-taken}
 use Rattle.link.specs.Records.{endOf, become}
-use Rattle.link.specs.Times.{gap, waitOver}
 use Rattle.link.specs.Judged.{rowOf, ruled, narrowed, goodVersion, goodNumber, back, expectedNow, runOut, judged}
 use Rattle.link.specs.Steps.{next, writingStep, actOf, declaredBy, openRefusal, openOf}
 use Rattle.link.specs.declared.Record.{Record}
@@ -43,7 +42,7 @@ use Rattle.demands.specs.Effects.{Does, asking, Receipt, takes}
 use Rattle.demands.specs.SetUp.{Given, Parties, here, there, arriving, headThen, tableThen, asks, confirms, authenticates, acknowledges, opens, Undisturbed, set-up, Fits, Until, Demand-2-set-up, Set-up-is-done, Demand-2-from-the-request}
 use Rattle.demands.proofs.Carried.{carried, done-by}
 use Rattle.demands.proofs.Effects.{told, effectOf, receipt-at, open-does, call-wrote, receipt-wrote}
-use Rattle.demands.proofs.Demand2.{own-kept, mirror-place, received-done, watching}
+use Rattle.demands.proofs.Demand2.{own-kept, mirror-place, received-done, watching, waits-in-time}
 use Rattle.demands.proofs.EveryStep.{kept, demand-2-over-every-step}
 
 -- What a node has of the connection: its address, and the record at a place.
@@ -136,12 +135,6 @@ later : (x : Receipt) (j b : ℕ) (q : Record) (v : Verdict) (r : Record) (ms : 
 later x j b q v r ms t e z = meanwhile (takes called x .outcome .head) (takes called x .table) j b r ms (rw (← e) (t .holds)) z
 
 -- What awaits a telegram
-
--- a wait that is not over
-in-wait : (q : Record) (time : ℕ) → 2 ≤ q .phase → q .phase ≤ 4 → time ≤ q .«sent_at» + 5000 → runOut q time ≡ false
-unfolding runOut waitOver pick
-in-wait q time low high ok =
-    rw (ne-eqb (q .phase) 5 (λ e. omega arith), le-leb 2 (q .phase) low, le-leb (q .phase) 4 high, le-ltb 5000 (gap (q .«sent_at») time) (omega arith)) refl
 
 -- by the table, in time
 judged-by : (a b time : ℕ) (r q : Record) (x : List ℕ) (v : Kind) (vs net : List ℕ) (n : ℕ) → Mirror a r b q → q .phase ≡ n → runOut q time ≡ false
@@ -261,7 +254,7 @@ module _ (p : Parties) (s : Undisturbed called p) where
       authenticates-it : judged (r₁ p) (a p) (p .third .time) (telegramOf (confirms called p)) ≡ Authenticate
       unfolding become endOf pick
       authenticates-it =
-          judged-by (b p) (a p) (p .third .time) (there p) (r₁ p) (telegramOf (confirms called p)) kind.Confirm _ _ 2 back-to-here refl (in-wait (r₁ p) (p .third .time) (lit≤ tt) (lit≤ tt) (s .confirmed-in-time))
+          judged-by (b p) (a p) (p .third .time) (there p) (r₁ p) (telegramOf (confirms called p)) kind.Confirm _ _ 2 back-to-here refl (waits-in-time (r₁ p) (p .third .time) (lit≤ tt) (lit≤ tt) (s .confirmed-in-time))
           (confirm-there (expectedNow (r₁ p)))
           ∙ (rw (version-good (telegramOf (confirms called p)) (S p) (U p) (confirm-there 0 .fields)) refl)
 
@@ -296,7 +289,7 @@ module _ (p : Parties) (s : Undisturbed called p) where
             eq-eqb (authenticationOf (telegramOf (authenticates called p))) (authenticationNumber (there p .level) (back 1 (next (S p))))
             (ap (λ (vs : List ℕ). getD vs 0 0) (authentication-there .fields) ∙ rw (same-level, back-one (S p) (s .random-there)) refl) in
             judged-by (a p) (b p) (p .fourth .time) (here p) (q₁ p) (telegramOf (authenticates called p)) kind.Authentication _ _ 3 (s .mirror) refl
-            (in-wait (q₁ p) (p .fourth .time) (lit≤ tt) (lit≤ tt) (s .authenticated-in-time)) authentication-there
+            (waits-in-time (q₁ p) (p .fourth .time) (lit≤ tt) (lit≤ tt) (s .authenticated-in-time)) authentication-there
             ∙ (rw number-is-ours refl)
 
         -- The acknowledgement
@@ -324,7 +317,7 @@ module _ (p : Parties) (s : Undisturbed called p) where
               eq-eqb (authenticationOf (telegramOf (acknowledges called p))) (authenticationNumber (here p .level) (back 2 (next (next (R p)))))
               (ap (λ (vs : List ℕ). getD vs 0 0) (acknowledgement-there .fields) ∙ rw (same-level, back-two (R p) (s .random-here)) refl) in
               judged-by (b p) (a p) (p .fifth .time) (there p) (r₂ p) (telegramOf (acknowledges called p)) kind.Acknowledgement _ _ 4 back-to-here refl
-              (in-wait (r₂ p) (p .fifth .time) (lit≤ tt) (lit≤ tt) (s .acknowledged-in-time)) acknowledgement-there
+              (waits-in-time (r₂ p) (p .fifth .time) (lit≤ tt) (lit≤ tt) (s .acknowledged-in-time)) acknowledgement-there
               ∙ (rw number-is-mine refl)
 
           fifth-taken : Done (opens called p)
