@@ -40,7 +40,7 @@ extern "C" {
 #endif
 
 /* The version of this library. */
-#define UJ_VERSION "0.1.0"
+#define UJ_VERSION "0.2.0"
 
 /* The longest telegram, check word included. Every output buffer needs this much room, however short the telegram. */
 #define UJ_LONGEST 244
@@ -269,8 +269,9 @@ uj_record uj_fresh(uint32_t partner, uint32_t partner_sap, uint32_t local_sap, u
  * generator that doesn't begin alike at every start of the card and that gives different connections different numbers (5.3.1.5). Where a number
  * comes again, telegrams of an earlier connection can fit again. The library cannot see whether a number is new.
  *
- * `named` is 0 where you name no idle time: then 500 is declared, and `idle_time` is not looked at. Any other `named` declares `idle_time`; naming 0
- * is naming one, and no idle telegrams are sent then. */
+ * `named` is 0 where you name no idle time: then 1,000 is declared, and `idle_time` is not looked at. Any other `named`
+ * declares `idle_time`; naming 0 is naming one, and no idle telegrams are sent then. Up to version 0.1.0 it was 500; who
+ * relied on it names 500. */
 
 /* Opens a closed connection: a request goes out. `net` of up to 226 bytes at level 4, 228 at level 2 goes with it.
  * UJ_EVENT_OPENED comes with a later uj_received.

@@ -62,10 +62,10 @@ static node new_node(uint32_t own, uint32_t partner, uint32_t partner_sap, uint3
     return n;
 }
 
-/* A call that is good as far as it does not hang on the record. */
+/* A call that is good as far as it does not hang on the record; an idle time of 500 is named. */
 static asked usual(enum which which, uint64_t time)
 {
-    asked a = {which, time, 0, 0, 0, 0, opener_random, 0, 0, 1, 0x20, 0x09, sample, sample, 0, 0, UJ_LONGEST};
+    asked a = {which, time, 0, 0, 0, 0, opener_random, 1, 500, 1, 0x20, 0x09, sample, sample, 0, 0, UJ_LONGEST};
     return a;
 }
 
@@ -278,12 +278,14 @@ static void test_bad_telegrams(void)
         }
 }
 
-/* An opening or confirm that names no idle time declares 500; naming 0 is naming one; the flag is any number but 0. */
+/* An opening or confirm that names no idle time declares 1,000, whatever stands beside the flag; naming 0 is naming one;
+   the flag is any number but 0. */
 static void test_idle_time_named(void)
 {
     static const struct {
         uint32_t named, idle_time, declared;
-    } rows[] = {{0, 0, 500}, {0, 50, 500}, {1, 0, 0}, {1, 100, 100}, {2, 65500, 65500}, {0x100, 300, 300}, {0x80000000, 0, 0}};
+    } rows[] = {{0, 0, 1000},   {0, 50, 1000},     {0, 65535, 1000}, {1, 0, 0},          {1, 100, 100},
+                {1, 500, 500}, {2, 65500, 65500}, {0x100, 300, 300}, {0x80000000, 0, 0}};
 
     for (size_t i = 0; i < 2 * sizeof rows / sizeof *rows; i++) {
         pair p = new_pair(5, 9, i % 2 ? 4 : 2);
@@ -322,6 +324,37 @@ static void test_idle(void)
         check_quiet(call(&p.opener, usual(TICK, 1020 + 250)));
         p.opener.table[0].declared = 0;
         check_quiet(call(&p.opener, usual(TICK, 1040 + 500)));
+    }
+}
+
+/* Where neither end names an idle time, idle is due 500 after we last sent, and the partner waits for 1,000. */
+static void test_no_idle_time_named(void)
+{
+    for (uint32_t level = 2; level <= 4; level += 2) {
+        pair p = new_pair(5, 9, level);
+        asked a = usual(OPEN, 1000);
+
+        case_is("no idle time named", level, 0);
+        a.named = a.idle_time = 0;
+        call(&p.opener, a);
+        a = delivered(&p.opener, 0, 1010);
+        a.named = a.idle_time = 0;
+        call(&p.responder, a);
+        authenticate(&p);
+        acknowledge(&p);
+        open_opener(&p);
+
+        const uint32_t number = p.opener.table[0].sending;
+        check_quiet(call(&p.opener, usual(TICK, 1020 + 499)));
+        check_wrote(&p.opener, 0, call(&p.opener, usual(TICK, 1020 + 500)), usual_order(IDLE, number));
+
+        order expected = usual_order(DISCONNECT, p.responder.table[0].sending);
+        expected.reason = 0x05;
+        p.responder.table[0].declared = 0; /* so that no idle telegram is due */
+        check_quiet(call(&p.responder, usual(TICK, 1030 + 1000)));
+        const uj_outcome o = call(&p.responder, usual(TICK, 1030 + 1001));
+        check_wrote(&p.responder, 0, o, expected);
+        check_closed(&p.responder, o, 0x05, 0);
     }
 }
 
@@ -715,8 +748,8 @@ static void test_overlap(void)
 int main(void)
 {
     static void (*const tests[])(void) = {
-        test_constructors, test_5_3_1_7, test_data, test_bad_telegrams, test_idle_time_named, test_idle, test_watch, test_waits, test_close,
-        test_refusals, test_fields, test_fields_at_rest, test_alike, test_table_sizes, test_found_by_route, test_unknown_route,
+        test_constructors, test_5_3_1_7, test_data, test_bad_telegrams, test_idle_time_named, test_idle,
+        test_no_idle_time_named, test_watch, test_waits, test_close, test_refusals, test_fields, test_fields_at_rest, test_alike, test_table_sizes, test_found_by_route, test_unknown_route,
         test_crossed_telegrams, test_overlap,
     };
     uint32_t state = 1;

@@ -231,8 +231,9 @@ pub fn telegram_lengths() -> Vec<Case> {
     cases
 }
 
-/// Idle times named and not named, in open and in received, in every phase. 0 named is 0 declared; where none is named 500 is declared. Every flag but 0 names
-/// one, also those that a narrower number would wrap into 0.
+/// Idle times named and not named, in open and in received, in every phase. 0 named is 0 declared; where none is named
+/// 1,000 is declared, whatever stands beside the flag. Every flag but 0 names one, also those that a narrower number would
+/// wrap into 0.
 pub fn namings() -> Vec<Case> {
     const FLAGS: [u32; 8] = [0, 1, 2, 255, 256, 0x1_0000, 0x8000_0000, u32::MAX];
     let mut cases = Vec::new();
@@ -241,7 +242,7 @@ pub fn namings() -> Vec<Case> {
         for named in FLAGS {
             for idle_time in GOOD_IDLE_TIMES.into_iter().chain(BAD_IDLE_TIMES) {
                 let good = named == 0 || GOOD_IDLE_TIMES.contains(&idle_time);
-                let declared = if named == 0 { 500 } else { idle_time };
+                let declared = if named == 0 { 1000 } else { idle_time };
                 for call in [open(NOW), received(NOW, request.clone())] {
                     let demand = match good && record.phase == CLOSED {
                         true => declaring(&record, &call, declared),

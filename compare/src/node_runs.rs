@@ -2,14 +2,14 @@
 
 use crate::library_node;
 use crate::link_call::{Call, Naming};
-use crate::link_samples::{open, record, send, NOW};
+use crate::link_samples::{bytes, open, received, record, send, NOW};
 use crate::link_step::{Record, CLOSED, OPEN};
 use crate::node_call::Head;
 use crate::node_case::{Case, Demand, Outcome, LIBRARY, SECOND};
 use crate::node_samples::{ask, asks, table, HEAD, OTHER_ADDRESS, OTHER_SAP};
 use crate::samples::{pattern, SENDERS};
 use crate::tally::Tally;
-use crate::telegram::End;
+use crate::telegram::{End, Kind};
 
 /// A case with its name, and what the line says of its outcome.
 struct Line {
@@ -40,6 +40,14 @@ fn sends(length: usize, demand: Demand) -> Case {
 fn opens(naming: Naming) -> Case {
     let table = two_records();
     let asked = ask(open(NOW).with_naming(naming), 1, &table[1]);
+    Case::new(table, asked, Demand::Done(1))
+}
+
+/// A request of the closed record's partner, and the confirm of it.
+fn confirms(naming: Naming) -> Case {
+    let table = two_records();
+    let request = bytes(&table[1], HEAD.own, Kind::Request);
+    let asked = ask(received(NOW, request).with_naming(naming), 1, &table[1]);
     Case::new(table, asked, Demand::Done(1))
 }
 
@@ -80,10 +88,18 @@ fn lines() -> Vec<Line> {
             outcome.answered.happened.event == 2
         }),
         line(
-            "an opening that names no time writes F4h 01h as bytes 7..8",
+            "an opening that names no time writes E8h 03h as bytes 7..8",
             opens(Naming { named: 0, idle_time: 0 }),
-            |outcome| idle_time_written(outcome) == Some(&[0xF4, 0x01]),
+            |outcome| idle_time_written(outcome) == Some(&[0xE8, 0x03]),
         ),
+        line(
+            "a confirm that names no time writes E8h 03h as bytes 7..8",
+            confirms(Naming { named: 0, idle_time: 0 }),
+            |outcome| idle_time_written(outcome) == Some(&[0xE8, 0x03]),
+        ),
+        line("naming 500 writes F4h 01h", opens(Naming { named: 1, idle_time: 500 }), |outcome| {
+            idle_time_written(outcome) == Some(&[0xF4, 0x01])
+        }),
         line("one that names 0 writes 0 and 0", opens(Naming { named: 1, idle_time: 0 }), |outcome| {
             idle_time_written(outcome) == Some(&[0, 0])
         }),

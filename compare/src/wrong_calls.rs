@@ -20,6 +20,14 @@ fn set_naming(step: &mut Step, other: fn(Naming) -> Naming) {
     step.call = step.call.clone().with_naming(naming);
 }
 
+/// Where none is named, as if 500 were.
+fn declaring_500(naming: Naming) -> Naming {
+    match naming.named {
+        0 => Naming { named: 1, idle_time: 500 },
+        _ => naming,
+    }
+}
+
 fn namings() -> Vec<Wrong> {
     let namings = link_refusals::namings;
     vec![
@@ -28,6 +36,14 @@ fn namings() -> Vec<Wrong> {
                 named: naming.named.min(naming.idle_time),
                 ..naming
             });
+        }),
+        reads("500 declared where none is named", namings, |step| {
+            set_naming(step, declaring_500);
+        }),
+        reads("500 declared by a confirm where none is named", namings, |step| {
+            if is_receipt(step) {
+                set_naming(step, declaring_500);
+            }
         }),
         reads("none named declares 0", namings, |step| {
             set_naming(step, |naming| match naming.named {

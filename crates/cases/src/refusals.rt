@@ -34,7 +34,7 @@ fn zeroed() -> Side {
 
 // The calls that the layer above makes, on one record and into a buffer of the caller's.
 fn asked(side: Side, out: &mut [u8]) {
-    opens(b"  open", side, 1100, link::idle_time_by(0, 0), out);
+    opens(b"  open", side, 1100, link::idle_time_by(1, 500), out);
     sends(b"  send", side, 1100, 0x09, b"net", out);
     closes(b"  close", side, 1, 0, out);
 }

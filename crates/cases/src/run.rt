@@ -85,7 +85,7 @@ pub(crate) fn takes_lent(
     shown(name, side, step, out)
 }
 
-// The same with no idle time named and no net data lent.
+// The same with an idle time of 500 named and no net data lent.
 pub(crate) fn takes(
     name: &[u8],
     side: Side,
@@ -94,6 +94,6 @@ pub(crate) fn takes(
     length: u32,
     out: &mut [u8],
 ) -> Side {
-    let idle = link::idle_time_by(0, 0);
+    let idle = link::idle_time_by(1, 500);
     takes_lent(name, side, time, idle, b"", run, length, out)
 }

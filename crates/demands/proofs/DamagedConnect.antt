@@ -223,7 +223,7 @@ module _ (e : End) (m n : ℕ) (t u : List ℕ) (changed : Changed t u) (within 
         by i false f = let high : 12 ≤ i = ltb-false i 12 f in within .after i (omega arith)
 
 -- the levels that there are
-of-levels : (l : ℕ) → isLevel l ≡ true → (l ≡ 4) ⊎ (l ≡ 2)
+pub of-levels : (l : ℕ) → isLevel l ≡ true → (l ≡ 4) ⊎ (l ≡ 2)
 unfolding pick
 of-levels l = by (eqb l 4) refl
   where

@@ -7,6 +7,7 @@ use Rattle.demands.proofs.Demand2.{demand-2-one-step}
 use Rattle.demands.proofs.OneEnd.{demand-2-one-end}
 use Rattle.demands.proofs.EveryStep.{demand-2-over-every-step}
 use Rattle.demands.proofs.SetUp.{demand-2-set-up, set-up-is-done, demand-2-from-the-request}
+use Rattle.demands.proofs.IdleTimes.{demand-2-idle-times}
 use Rattle.demands.proofs.Demand3.{demand-3, cards-exchanged-at-a-node}
 use Rattle.demands.proofs.Law.{the-law}
 
@@ -19,6 +20,7 @@ demand-2 =
       set-up = demand-2-set-up;
       set-up-is-done = set-up-is-done;
       from-the-request = demand-2-from-the-request;
+      idle-times = demand-2-idle-times;
     }
 
 pub demands : Demands

@@ -9,6 +9,7 @@ pub mod Demands
 pub mod Determined
 pub mod Effects
 pub mod EveryStep
+pub mod IdleTimes
 pub mod OneEnd
 pub mod Passing
 pub mod Law

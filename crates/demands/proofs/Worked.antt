@@ -23,12 +23,13 @@ use Rattle.telegram.specs.declared.Clause.the-variants as clause
 use Rattle.telegram.proofs.Sealing.{telegram-length}
 use Rattle.telegram.proofs.Taken.{data-taken}
 use Rattle.link.specs.Steps.{declaredBy, firstRefusal, openRefusal}
+use Rattle.link.specs.Facts.{naming}
 use Rattle.link.proofs.Answers.{answers}
 use Rattle.node.specs.Accepted.{recordAt}
 use Rattle.node.specs.Matching.{firstMatch}
 use Rattle.node.specs.Calls.{asked}
 use Rattle.node.proofs.Facts.{first-answered}
-use Rattle.demands.specs.Worked.{Data-at-4, Fails-at-4, naming, Idle-time-answers, Idle-telegram, Worked}
+use Rattle.demands.specs.Worked.{Data-at-4, Fails-at-4, Idle-time-answers, Idle-telegram, Worked}
 
 -- A connect telegram whose net data fit is allowed exactly where its idle time is good.
 fitting : (time count l : ℕ) → count ≤ most Request l → connectAllowed time count l ≡ goodIdle time
@@ -56,7 +57,7 @@ connect-answers e time net d t r room fit =
     answer-is _ t ∙ left-to-refuse e (length d) _ r room ∙ ap (λ b. pick b 0 5) (fitting time (length net) (e .level) fit)
 
 -- And so do the link's opening and the node's calls, which answer their first refusal.
-idle-time-answers : (time n : ℕ) → pick (goodIdle time) 0 5 ≡ n → Idle-time-answers time n
+pub idle-time-answers : (time n : ℕ) → pick (goodIdle time) 0 5 ≡ n → Idle-time-answers time n
 unfolding writesRequest writesConfirm openRefusal firstRefusal declaredBy asked pick
 idle-time-answers time n known =
     record {

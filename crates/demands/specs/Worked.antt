@@ -24,8 +24,8 @@ use Rattle.telegram.specs.declared.Clause.the-variants as clause
 use Rattle.telegram.specs.declared.Check.the-variants.{Passes, Failed}
 use Rattle.link.specs.Records.{recordInRange}
 use Rattle.link.specs.Steps.{openOf}
+use Rattle.link.specs.Facts.{naming}
 use Rattle.link.specs.declared.Record.{Record}
-use Rattle.link.specs.declared.IdleTime.{IdleTime}
 use Rattle.node.specs.declared.Head.{Head}
 use Rattle.node.specs.declared.Route.{Route}
 use Rattle.node.specs.Accepted.{recordAt, accepted}
@@ -54,10 +54,6 @@ pub record Data-at-4 (low command : ℕ) : Type 0 where
 abbrev pub Fails-at-4 : ℕ → Clause → Type 0
 Fails-at-4 command c =
     (e : End) (expected : ℕ) (t : List ℕ) → inRange e ≡ true → e .level ≡ 4 → onBus (length t) ≡ true → commandOf t ≡ command → checkOf e expected t ≡ Failed c
-
--- A caller names this idle time.
-abbrev pub naming : ℕ → IdleTime
-naming time = record { named = true; time = time }
 
 -- The number answered to an idle time where nothing else is wrong: by both writers, by the link's opening, and by the node's calls that are given one.
 pub record Idle-time-answers (time n : ℕ) : Type 0 where

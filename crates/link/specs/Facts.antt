@@ -4,12 +4,16 @@ use mathlib.Core.Path.{_≡_}
 use mathlib.Core.Bool.{Bool, true, false}
 use mathlib.Core.List.{List, [], _∷_}
 use Prim.Native.Nat.{ℕ, _+_, _≤_}
+use lib.ListN.{getD}
+use lib.Dec.{leb}
 use Rattle.ground.specs.Choice.{pick}
 use Rattle.telegram.specs.Commands.{kindOfCommand}
-use Rattle.telegram.specs.Writers.{leftBy, writesDisconnect}
+use Rattle.telegram.specs.Layout.{most}
+use Rattle.telegram.specs.Fields.{idleTimeOf}
+use Rattle.telegram.specs.Writers.{leftBy, connectAllowed, writesDisconnect}
 use Rattle.telegram.specs.Writers.Outcome.{wrote}
 use Rattle.telegram.specs.Facts.{Taken}
-use Rattle.telegram.specs.declared.Kind.the-variants.{Disconnect}
+use Rattle.telegram.specs.declared.Kind.the-variants.{Request, Disconnect}
 use Rattle.telegram.specs.Check.{commandOf, checkOf}
 use Rattle.telegram.specs.declared.Clause.{Clause}
 use Rattle.telegram.specs.declared.Check.the-variants.{Passes, Failed}
@@ -17,8 +21,8 @@ use Rattle.link.specs.Records.{endOf, atRest, recordInRange, closedBy}
 use Rattle.link.specs.Times.{waitOver, watchOver, idleDue}
 use Rattle.link.specs.Table.{Row, cell, reading, otherwise, Timeout-snd, Timeout-rcv, Timeout-brk, Incorrect-rcv-1st}
 use Rattle.link.specs.Judged.{rowOf, ruled, narrowed, expectedNow, runOut, judged, ticked}
-use Rattle.link.specs.declared.Verdict.the-variants.{Close}
-use Rattle.link.specs.Steps.{actOut, openRefusal, openOf, closeRefusal, closeOf, sendRefusal, sendOf, receivedRefusal, receivedOf, tickRefusal, tickOf}
+use Rattle.link.specs.declared.Verdict.the-variants.{Confirm, Close}
+use Rattle.link.specs.Steps.{declaredBy, actOut, openRefusal, openOf, openOut, closeRefusal, closeOf, sendRefusal, sendOf, receivedRefusal, receivedOf, receivedOut, tickRefusal, tickOf}
 use Rattle.link.specs.declared.Record.{Record}
 use Rattle.link.specs.declared.IdleTime.{IdleTime}
 
@@ -90,6 +94,30 @@ Disconnect-before-closing =
 -- A closed record, finally or not, has its numbers, idle times and timers at 0.
 abbrev pub Closed-at-rest : Type 0
 Closed-at-rest = (r : Record) (last : Bool) → atRest (closedBy last r) ≡ true
+
+-- A call names this idle time; or it names none, whatever number stands beside the flag.
+abbrev pub naming : ℕ → IdleTime
+naming time = record { named = true; time = time }
+
+abbrev pub noneNamed : ℕ → IdleTime
+noneNamed beside = record { named = false; time = beside }
+
+-- The connect telegram at the front of a buffer says 1,000: bytes 7 and 8 are E8h 03h (5.2.1.3, 5.2.2.2), and are read back so.
+pub record Says-1000 (out : List ℕ) : Type 0 where
+  pub byte-7 : getD out 6 0 ≡ 0xE8
+  pub byte-8 : getD out 7 0 ≡ 0x03
+  pub read-back : idleTimeOf out ≡ 1000
+
+-- An opening or a confirm that names no idle time declares 1,000 (change request e). One that is named is declared, 0 too. None named is never the cause of
+-- answer 5. And 1,000 goes out: in the request of every opening that is done, and in the confirm of every request that is confirmed.
+pub record Unnamed : Type 0 where
+  pub declares : (beside : ℕ) → declaredBy (noneNamed beside) ≡ 1000
+  pub named : (time : ℕ) → declaredBy (naming time) ≡ time
+  pub never-refused : (beside count l : ℕ) → connectAllowed (declaredBy (noneNamed beside)) count l ≡ leb count (most Request l)
+  pub written : (r : Record) (own time random beside : ℕ) (net d : List ℕ) → openOf r own time random (noneNamed beside) net d .answer .number ≡ 0
+      → Says-1000 (openOut r own random (noneNamed beside) net d)
+  pub confirmed : (r : Record) (own time random beside : ℕ) (t net d : List ℕ) → judged r own time t ≡ Confirm
+      → receivedOf r own time random (noneNamed beside) t net d .answer .number ≡ 0 → Says-1000 (receivedOut r own time random (noneNamed beside) t net d)
 
 -- Waits: 5,000 ms after our last sending is in time, 5,001 is not.
 pub record Waits : Type 0 where

@@ -27,9 +27,9 @@ unfoldable pub firstRefusal : Bool → Bool → Bool → Bool → Bool → Bool 
 firstRefusal ranged room carried live suited allowed =
     pick ranged (pick room (pick carried (pick live (pick suited (pick allowed 0 5) 3) 8) 6) 4) 1
 
--- The idle time declared: the one named, or 500.
+-- The idle time declared: the one named, or 1,000.
 unfoldable pub declaredBy : IdleTime → ℕ
-declaredBy i = pick (i .named) (i .time) 500
+declaredBy i = pick (i .named) (i .time) 1000
 
 -- The number after x, modulo 2^32.
 abbrev pub next : ℕ → ℕ

@@ -27,7 +27,7 @@ use crate::records::end_of;
 use crate::records::record_in_range;
 
 // The idle time that an opening or a confirm declares when none is named.
-const UNNAMED: u32 = 500;
+const UNNAMED: u32 = 1000;
 
 fn declared_by(idle: IdleTime) -> u32
     ensures { λ n. ⌜ n ≡ declaredBy idle ⌝ }

@@ -45,7 +45,7 @@ pub(crate) fn opens(
     net: &[u8],
     out: &mut [u8],
 ) -> Station {
-    let idle = link::idle_time_by(0, 0);
+    let idle = link::idle_time_by(1, 500);
     let first = s.first;
     let second = s.second;
     let head = s.head;
@@ -101,7 +101,7 @@ fn takes_telegram(
     telegram: &[u8],
     out: &mut [u8],
 ) -> Station {
-    let idle = link::idle_time_by(0, 0);
+    let idle = link::idle_time_by(1, 500);
     let route = Route {
         sender,
         destination_sap: 3,

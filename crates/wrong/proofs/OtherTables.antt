@@ -257,7 +257,7 @@ either-way true c = refl
 either-way false c = refl
 
 -- our version is a good one, and the numbers returned are those two and one before 0
-good-version : (t : List ℕ) → values kind.Request t ≡ 0 ∷ 0 ∷ versionAndBus → goodVersion t ≡ true
+pub good-version : (t : List ℕ) → values kind.Request t ≡ 0 ∷ 0 ∷ versionAndBus → goodVersion t ≡ true
 unfolding goodVersion pick
 good-version t e = ap (λ (vs : List ℕ). all (eqb (getD vs 2 0) 3 ∷ eqb (getD vs 3 0) 0 ∷ [])) e
 
