@@ -278,8 +278,8 @@ static void test_bad_telegrams(void)
         }
 }
 
-/* An opening or confirm that names no idle time declares 1,000, whatever stands beside the flag; naming 0 is naming one;
-   the flag is any number but 0. */
+/* An opening or confirm that names no idle time declares 1,000, whatever stands beside the flag; naming 0 is naming
+   one; the flag is any number but 0. */
 static void test_idle_time_named(void)
 {
     static const struct {
@@ -749,8 +749,8 @@ int main(void)
 {
     static void (*const tests[])(void) = {
         test_constructors, test_5_3_1_7, test_data, test_bad_telegrams, test_idle_time_named, test_idle,
-        test_no_idle_time_named, test_watch, test_waits, test_close, test_refusals, test_fields, test_fields_at_rest, test_alike, test_table_sizes, test_found_by_route, test_unknown_route,
-        test_crossed_telegrams, test_overlap,
+        test_no_idle_time_named, test_watch, test_waits, test_close, test_refusals, test_fields, test_fields_at_rest,
+        test_alike, test_table_sizes, test_found_by_route, test_unknown_route, test_crossed_telegrams, test_overlap,
     };
     uint32_t state = 1;
 

@@ -232,8 +232,8 @@ pub fn telegram_lengths() -> Vec<Case> {
 }
 
 /// Idle times named and not named, in open and in received, in every phase. 0 named is 0 declared; where none is named
-/// 1,000 is declared, whatever stands beside the flag. Every flag but 0 names one, also those that a narrower number would
-/// wrap into 0.
+/// 1,000 is declared, whatever stands beside the flag. Every flag but 0 names one, also those that a narrower number
+/// would wrap into 0.
 pub fn namings() -> Vec<Case> {
     const FLAGS: [u32; 8] = [0, 1, 2, 255, 256, 0x1_0000, 0x8000_0000, u32::MAX];
     let mut cases = Vec::new();

@@ -40,7 +40,7 @@ pub record Declares (link : Link) (i : IdleTime) (time : ℕ) (bytes : List ℕ)
       → most Request (recordFor x .level) < length (x .net)
 
 -- What ticks do with an open record at a place that last sent and last took a telegram at these times, where both ends declare 1,000: an idle telegram is due 500
--- after the last sending (5.2.6.2, 5.2.6.5) and not before, and the partner's silence is borne for 1,000 (5.2.6.3) and no longer.
+-- after the last sending (5.2.6.5; half of the time is ours) and not before, and the partner's silence is borne for 1,000 (5.2.6.3, 5.2.6.4) and no longer.
 pub record Keeps-1000 (link : Link) (h : Head) (t : List Record) (i sent-at taken-at : ℕ) : Type 0 where
   pub early : (time : ℕ) (d : List ℕ) → time < sent-at + 500 → time ≤ taken-at + 1000 → Done (link (Tick i) h t time d)
       → Does (link (Tick i) h t time d) d i (nothing (recordAt t i))

@@ -138,15 +138,16 @@ module _ (asks confirms : Rule) (l : ℕ) (k : Level l) (i : IdleTime) (time : �
 
 pub no-other-rule : No-other-rule
 unfolding goodIdle pick
-no-other-rule asks confirms d =
-    (record {
-      none = λ l beside level. asks-so asks confirms l (levels l level) (noneNamed beside) 1000 _ refl (d .none beside);
-      named = λ l time level good. asks-so asks confirms l (levels l level) (naming time) time _ good (d .named time);
-    },
-    record {
-      none = λ l beside level. confirms-so asks confirms l (levels l level) (noneNamed beside) 1000 _ refl (d .none beside);
-      named = λ l time level good. confirms-so asks confirms l (levels l level) (naming time) time _ good (d .named time);
-    })
+no-other-rule asks confirms d = (
+  record {
+    none = λ l beside level. asks-so asks confirms l (levels l level) (noneNamed beside) 1000 _ refl (d .none beside);
+    named = λ l time level good. asks-so asks confirms l (levels l level) (naming time) time _ good (d .named time);
+  },
+  record {
+    none = λ l beside level. confirms-so asks confirms l (levels l level) (noneNamed beside) 1000 _ refl (d .none beside);
+    named = λ l time level good. confirms-so asks confirms l (levels l level) (naming time) time _ good (d .named time);
+  },
+)
 
 pub wrong-idle-times-are-shut-out : Wrong-idle-times-are-shut-out
 unfolding goodIdle pick
