@@ -269,9 +269,9 @@ uj_record uj_fresh(uint32_t partner, uint32_t partner_sap, uint32_t local_sap, u
  * generator that doesn't begin alike at every start of the card and that gives different connections different numbers (5.3.1.5). Where a number
  * comes again, telegrams of an earlier connection can fit again. The library cannot see whether a number is new.
  *
- * `named` is 0 where you name no idle time: then 1,000 is declared, and `idle_time` is not looked at. Any other `named`
- * declares `idle_time`; naming 0 is naming one, and no idle telegrams are sent then. Up to version 0.1.0 it was 500;
- * who relied on it names 500. */
+ * `named` is 0 where you name no idle time: then 1,000 is declared, and `idle_time` is not looked at. (Up to version
+ * 0.1.0 then 500 was declared; who relied on that names 500.) Any other `named` declares `idle_time`; naming 0 is
+ * naming one, and no idle telegrams are sent then. */
 
 /* Opens a closed connection: a request goes out. `net` of up to 226 bytes at level 4, 228 at level 2 goes with it.
  * UJ_EVENT_OPENED comes with a later uj_received.

@@ -84,7 +84,7 @@ static asked delivered(const node *from, size_t place, uint64_t time)
     return a;
 }
 
-/* An order of that kind, with the values that the calls give it where the caller names none. */
+/* An order of that kind, with the values that `usual` names. */
 static order usual_order(enum kind kind, uint32_t number)
 {
     order o = {kind, number, 0, 500, 1, 0x20, 0x09, sample, 0};
@@ -278,13 +278,13 @@ static void test_bad_telegrams(void)
         }
 }
 
-/* An opening or confirm that names no idle time declares 1,000, whatever stands beside the flag; naming 0 is naming
-   one; the flag is any number but 0. */
+/* An opening or confirm that names no idle time declares 1,000, whatever stands beside the flag; any flag but 0 names
+   one, and naming 0 is naming one. */
 static void test_idle_time_named(void)
 {
     static const struct {
         uint32_t named, idle_time, declared;
-    } rows[] = {{0, 0, 1000},   {0, 50, 1000},     {0, 65535, 1000}, {1, 0, 0},          {1, 100, 100},
+    } rows[] = {{0, 0, 1000},  {0, 50, 1000},     {0, 65535, 1000},  {1, 0, 0},         {1, 100, 100},
                 {1, 500, 500}, {2, 65500, 65500}, {0x100, 300, 300}, {0x80000000, 0, 0}};
 
     for (size_t i = 0; i < 2 * sizeof rows / sizeof *rows; i++) {
@@ -327,7 +327,24 @@ static void test_idle(void)
     }
 }
 
-/* Where neither end names an idle time, idle is due 500 after we last sent, and the partner waits for 1,000. */
+/* A node whose record sent and took its last telegrams at these times, where neither end named an idle time: idle is due
+   500 after it last sent, and not before; 1,000 of silence are borne, and 1,001 close with 05h. */
+static void check_keeps_1000(node n, uint64_t sent_at, uint64_t taken_at)
+{
+    const uint32_t number = n.table[0].sending;
+    node silent = n;
+    order expected = usual_order(DISCONNECT, number);
+
+    check_quiet(call(&n, usual(TICK, sent_at + 499)));
+    check_wrote(&n, 0, call(&n, usual(TICK, sent_at + 500)), usual_order(IDLE, number));
+    silent.table[0].declared = 0; /* so that no idle telegram is due */
+    check_quiet(call(&silent, usual(TICK, taken_at + 1000)));
+    const uj_outcome o = call(&silent, usual(TICK, taken_at + 1001));
+    expected.reason = 0x05;
+    check_wrote(&silent, 0, o, expected);
+    check_closed(&silent, o, 0x05, 0);
+}
+
 static void test_no_idle_time_named(void)
 {
     for (uint32_t level = 2; level <= 4; level += 2) {
@@ -343,18 +360,8 @@ static void test_no_idle_time_named(void)
         authenticate(&p);
         acknowledge(&p);
         open_opener(&p);
-
-        const uint32_t number = p.opener.table[0].sending;
-        check_quiet(call(&p.opener, usual(TICK, 1020 + 499)));
-        check_wrote(&p.opener, 0, call(&p.opener, usual(TICK, 1020 + 500)), usual_order(IDLE, number));
-
-        order expected = usual_order(DISCONNECT, p.responder.table[0].sending);
-        expected.reason = 0x05;
-        p.responder.table[0].declared = 0; /* so that no idle telegram is due */
-        check_quiet(call(&p.responder, usual(TICK, 1030 + 1000)));
-        const uj_outcome o = call(&p.responder, usual(TICK, 1030 + 1001));
-        check_wrote(&p.responder, 0, o, expected);
-        check_closed(&p.responder, o, 0x05, 0);
+        check_keeps_1000(p.opener, 1020, 1040);
+        check_keeps_1000(p.responder, 1030, 1030);
     }
 }
 

@@ -9,7 +9,7 @@ use Operation::*;
 
 /// 7.2.1.1: the acknowledgement timeout period in milliseconds.
 const ACKNOWLEDGEMENT_TIMEOUT: u64 = 5000;
-/// Request e: the idle time that is declared where none is named. The scope had 500.
+/// Request e: the idle time that is declared where none is named.
 const UNNAMED_IDLE_TIME: u32 = 1000;
 /// The scope: the X and the Y that a request and a confirm must have.
 const ACCEPTED_VERSION: [u8; 2] = [3, 0];

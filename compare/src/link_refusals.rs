@@ -46,7 +46,7 @@ pub fn phases() -> Vec<Case> {
 
 /// Idle times that are good, and some that are not: among these some that a narrower number would wrap into good ones.
 #[rustfmt::skip]
-const GOOD_IDLE_TIMES: [u32; 6] = [0, 100, 200, 500, 65400, 65500];
+const GOOD_IDLE_TIMES: [u32; 7] = [0, 100, 200, 500, 1000, 65400, 65500];
 #[rustfmt::skip]
 const BAD_IDLE_TIMES: [u32; 14] =
     [1, 50, 99, 101, 150, 499, 65450, 65501, 65535, 65536, 65600, 0x1_0000 + 500, 0x8000_0000, u32::MAX];

@@ -3,11 +3,11 @@
 use mathlib.Core.Path.{_≡_, refl, sym, ap, _∙_}
 use mathlib.Core.Bool.{Bool, true, false}
 use mathlib.Core.List.{List, [], _∷_}
-use Prim.Native.Nat.{ℕ, _+_, _≤_, _<_}
+use Prim.Native.Nat.{ℕ, _+_, _%_, _≤_, _<_}
 use native.Mathlib.Omega.{arith}
 use lib.ListN.{length, take, drop}
 use lib.Dec.{leb}
-use borrow.Author.Tests.{leb-false}
+use borrow.Author.Tests.{leb-false, le-leb, eq-eqb}
 use Rattle.ground.specs.Choice.{pick}
 use Rattle.ground.specs.Numbers.{lowestFirst}
 use Rattle.telegram.specs.Commands.{kindOf}
@@ -33,7 +33,7 @@ use Rattle.demands.specs.Pairs.{telegramOf, Done, Watching, In-time, Lis
 use Rattle.demands.specs.Effects.{Effect, Does, Receipt, takes, placeFor, recordFor}
 use Rattle.demands.specs.OneEnd.{Looks-at}
 use Rattle.demands.specs.SetUp.{Parties, Both-open}
-use Rattle.demands.specs.IdleTimes.{Says, Declares, Keeps-1000, Demand-2-idle-times}
+use Rattle.demands.specs.IdleTimes.{Carries, Declares, Keeps-1000, Demand-2-idle-times}
 use Rattle.demands.proofs.Effects.{told, open-does}
 use Rattle.demands.proofs.OneEnd.{silence-closes-here, ticks-in-time, when-closed}
 use Rattle.demands.proofs.SetUp.{demand-2-set-up}
@@ -49,7 +49,7 @@ confirm-says e random time net = refl
 
 -- What was done, where the record left declares this time and the telegram says so.
 says : (l : Left) (d : List ℕ) (place : ℕ) (x : Effect) (time : ℕ) (bytes : List ℕ) → Does l d place x → x .after .declared ≡ time → take 2 (drop 6 (x .telegram)) ≡ bytes
-    → Says l place time bytes
+    → Carries l place time bytes
 says l d place x time bytes does declared bytes-are =
     record {
       declared = ap (λ (r : Record). r .declared) (does .leaves) ∙ declared;
@@ -81,6 +81,10 @@ too-long : (time count l : ℕ) → goodIdle time ≡ true → connectAllowed ti
 unfolding connectAllowed pick
 too-long time count l good not = leb-false count (most Request l) (rw good at not)
 
+good-by : (time : ℕ) → time ≤ 65500 → time % 100 ≡ 0 → goodIdle time ≡ true
+unfolding goodIdle pick
+good-by time most-is hundreds = rw (le-leb time 65500 most-is, eq-eqb (time % 100) 0 hundreds) refl
+
 declares : (i : IdleTime) (time : ℕ) (bytes : List ℕ) → declaredBy i ≡ time → lowestFirst 2 time ≡ bytes → Declares called i time bytes
 unfolding become asked
 declares i time bytes known written =
@@ -91,13 +95,13 @@ declares i time bytes known written =
           let is : declaredBy (x .idle-time) ≡ time = ap declaredBy same ∙ known in
           says _ (x .buffer) (placeFor x) _ time bytes (when-closed .confirms x closed good done) is
           (confirm-says _ (x .random) (declaredBy (x .idle-time)) (x .net) ∙ ap (lowestFirst 2) is ∙ written);
-      opening-allowed = λ good place random net h t now d e.
-          too-long time (length net) (recordAt t place .level) good
+      opening-allowed = λ most-is hundreds place random net h t now d e.
+          too-long time (length net) (recordAt t place .level) (good-by time most-is hundreds)
           (ap (λ (y : ℕ). connectAllowed y (length net) (recordAt t place .level)) (sym known)
           ∙ five (asked (Open place random i net) h t now d) (sym (first-answered (Open place random i net) h t now d) ∙ e));
-      receipt-allowed = λ good x same e.
+      receipt-allowed = λ most-is hundreds x same e.
           let c = Received (x .route) (x .random) (x .idle-time) (x .telegram) (x .net) in
-          too-long time (length (x .net)) (recordFor x .level) good
+          too-long time (length (x .net)) (recordFor x .level) (good-by time most-is hundreds)
           (ap (λ (y : ℕ). connectAllowed y (length (x .net)) (recordFor x .level)) (sym (ap declaredBy same ∙ known))
           ∙ five (asked c (x .head) (x .table) (x .time) (x .buffer)) (sym (first-answered c (x .head) (x .table) (x .time) (x .buffer)) ∙ e));
     }

@@ -46,7 +46,7 @@ use Rattle.demands.specs.Effects.{Effect, Does, Receipt, takes, recordFo
 use Rattle.demands.specs.Demand2.{Is-closed}
 use Rattle.demands.specs.OneEnd.{Looks-at, Silence-closes-here, Late-closes, Late-answer-closes, Ticks-in-time, Good-request, When-closed, Awaiting, Confirm-awaited, Answer-awaited, acknowledged, opened, For-an-open, When-open, Incorrect-closes-here, Partner-closes-here, Calls-of-ours, Answers-us, By-an-answer, Opens-only-by-an-answer, From-a-good-telegram, Data-only-from-a-good-telegram, Never-reopens, Demand-2-one-end}
 use Rattle.demands.specs.OneEnd.Looks-at.{tick, receipt}
-use Rattle.demands.proofs.Carried.{carried, stepIn}
+use Rattle.demands.proofs.Carried.{carried, stepIn, done-by}
 use Rattle.demands.proofs.Effects.{effectOf, left-by, receipt-does, receipt-at, tick-does, open-does, send-does, close-does}
 use Rattle.demands.proofs.Demand2.{open-in-time, waits-in-time, due-sends, expects, watch-ran-out}
 use Rattle.demands.proofs.EveryStep.{quiet-tick}
@@ -121,6 +121,7 @@ closed-tick r time p = rw p refl
 pub ticks-in-time : Ticks-in-time called
 ticks-in-time =
     record {
+      done = λ h t i time d good room timely there live. done-by (Tick i) h t time d good room timely refl there live refl refl;
       due = λ h t i time d p due done. tick-does h t i time d SendIdle (due-sends (recordAt t i) time p due) done;
       early = λ h t i time d listens not-yet done. tick-does h t i time d Nothing (quiet-tick (recordAt t i) time listens not-yet) done;
       closed = λ h t i time d p done. tick-does h t i time d Nothing (closed-tick (recordAt t i) time p) done;

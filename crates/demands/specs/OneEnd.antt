@@ -7,6 +7,7 @@ use mathlib.Core.Bool.{Bool, true, false}
 use mathlib.Core.List.{List, []}
 use mathlib.Core.Logic.{_⊎_}
 use Prim.Native.Nat.{ℕ, _+_, _≤_, _<_}
+use lib.ListN.{length}
 use lib.Dec.{eqb}
 use Rattle.telegram.specs.Fields.{authenticationOf, typeOf, reasonOf}
 use Rattle.telegram.specs.Commands.{kindOfCommand}
@@ -25,7 +26,7 @@ use Rattle.link.specs.declared.Event.the-variants.{Opened}
 use Rattle.node.specs.declared.Head.{Head}
 use Rattle.node.specs.declared.Route.{Route}
 use Rattle.node.specs.Matching.{firstMatch}
-use Rattle.node.specs.Accepted.{recordAt}
+use Rattle.node.specs.Accepted.{recordAt, accepted}
 use Rattle.node.specs.Calls.{Call, Link}
 use Rattle.node.specs.Calls.Call.{Open, Close, Send, Received, Tick}
 use Rattle.node.specs.Facts.{Net-data-handed-on}
@@ -61,6 +62,9 @@ pub record Late-answer-closes (link : Link) : Type 0 where
 
 -- Before that, a tick writes the idle telegram that is due on an open connection (5.2.6.2), and else does nothing; on a closed one it never does anything.
 pub record Ticks-in-time (link : Link) : Type 0 where
+  -- nothing refuses a tick where table, room, time and place are good and the record is not finally closed, whatever its timers say
+  pub done : (h : Head) (t : List Record) (i time : ℕ) (d : List ℕ) → accepted h t ≡ true → 244 ≤ length d → h .latest ≤ time → i < length t
+      → (recordAt t i .phase ≡ 6 → ⊥) → Done (link (Tick i) h t time d)
   pub due : (h : Head) (t : List Record) (i time : ℕ) (d : List ℕ) → recordAt t i .phase ≡ 5 → Due (recordAt t i) time → Done (link (Tick i) h t time d)
       → Does (link (Tick i) h t time d) d i (sendingIdle (recordAt t i) (h .own) time)
   pub early : (h : Head) (t : List Record) (i time : ℕ) (d : List ℕ) → Listens (recordAt t i) time → (recordAt t i .phase ≡ 5 → Due (recordAt t i) time → ⊥)

@@ -23,7 +23,8 @@ use Rattle.link.specs.Times.{gap, waitOver, watchOver}
 use Rattle.link.specs.Table.{cell, reading, otherwise, Connect-snd, Data-snd, Timeout-snd, Timeout-rcv, Timeout-brk, Data-rcv, Idle-rcv, Incorrect-rcv-1st, Incorrect-rcv-2nd, ConReq-rcv, ConAck-rcv, AuthReq-rcv, AuthAck-rcv, Discon-snd, FDiscon-snd, Discon-rcv}
 use Rattle.link.specs.Judged.{ruled, judged, passed, ticked, runOutVerdict}
 use Rattle.link.specs.Steps.{next, neb, firstRefusal, declaredBy, taken, sent, quietly, refusedStep, writingStep, actOf, actOut, unlessStep, unlessOut, openRefusal, openOf, openOut, closeRefusal, closeOf, sendRefusal, sendOf, receivedRefusal, receivedOf, receivedOut, tickRefusal, tickOf}
-use Rattle.link.specs.Facts.{Same, Same-connection, Final-stays, Disconnect-before-closing, Closed-at-rest, noneNamed, Says-1000, Unnamed, Waits, Watch, As-printed, By-the-table}
+use Rattle.link.specs.Facts.{Same, Same-connection, Final-stays, Disconnect-before-closing, Closed-at-rest, noneNamed, Carries-1000, Unnamed, Waits, Watch, As-printed, By-the-table}
+use Rattle.link.specs.Plain.{idleTimeBy}
 use Rattle.link.specs.declared.Record.{Record}
 use Rattle.link.specs.declared.Step.{Step}
 use Rattle.link.specs.declared.Event.{Event}
@@ -130,11 +131,11 @@ closed-at-rest r last = refl
 
 -- No idle time named
 
-request-1000 : (e : End) (random : ℕ) (net rest : List ℕ) → Says-1000 (request e random 1000 net ++ rest)
+request-1000 : (e : End) (random : ℕ) (net rest : List ℕ) → Carries-1000 (request e random 1000 net ++ rest)
 unfolding request sealed body kindOf pick
 request-1000 e random net rest = record { byte-7 = refl; byte-8 = refl; read-back = refl }
 
-confirm-1000 : (e : End) (random : ℕ) (net rest : List ℕ) → Says-1000 (confirm e random 1000 net ++ rest)
+confirm-1000 : (e : End) (random : ℕ) (net rest : List ℕ) → Carries-1000 (confirm e random 1000 net ++ rest)
 unfolding confirm sealed body kindOf pick
 confirm-1000 e random net rest = record { byte-7 = refl; byte-8 = refl; read-back = refl }
 
@@ -147,25 +148,27 @@ out-is zero (suc m) x d r q kind e z = let f = ne-eqb (suc m) 0 (λ y. omega ari
 out-is (suc n) m x d r q kind e z = let f = ne-eqb (suc n) 0 (λ y. omega arith) in let y : suc n ≡ 0 = (rw f at z) in absurd (omega arith)
 
 pub unnamed : Unnamed
-unfolding openOf openOut receivedOf receivedOut writesRequest writesConfirm connectAllowed goodIdle declaredBy pick
+unfolding idleTimeBy openOf openOut receivedOf receivedOut writesRequest writesConfirm connectAllowed goodIdle declaredBy pick
 unnamed =
     record {
       declares = λ beside. refl;
       named = λ time. refl;
+      flag-0 = λ beside. refl;
+      flag-else = λ flag time some. rw (ne-eqb flag 0 some) refl;
       never-refused = λ beside count l. refl;
       written = λ r own time random beside net d done.
           let n = openRefusal r own (noneNamed beside) net d in
           let m = refusal (endOf r own) (length d) (connectAllowed 1000 (length net) (endOf r own .level)) in
           let x = request (endOf r own) random 1000 net in
-          subst Says-1000 (sym (out-is n m x d r (become r 2 (next random) 0 1000 0 time 0) 1 event.Nothing done)) (request-1000 (endOf r own) random net (drop (length x) d));
+          subst Carries-1000 (sym (out-is n m x d r (become r 2 (next random) 0 1000 0 time 0) 1 event.Nothing done)) (request-1000 (endOf r own) random net (drop (length x) d));
       confirmed = λ r own time random beside t net d asks done.
           let n = receivedRefusal r own (noneNamed beside) t net d in
           let m = refusal (endOf r own) (length d) (connectAllowed 1000 (length net) (endOf r own .level)) in
           let x = confirm (endOf r own) random 1000 net in
-          subst (λ (v : Verdict). unlessStep n r (actOf v r own time random 1000 t net d) .answer .number ≡ 0 → Says-1000 (unlessOut n d (actOut v r own random 1000 t net d)))
+          subst (λ (v : Verdict). unlessStep n r (actOf v r own time random 1000 t net d) .answer .number ≡ 0 → Carries-1000 (unlessOut n d (actOut v r own random 1000 t net d)))
           (sym asks)
           (λ z.
-          subst Says-1000 (sym (out-is n m x d r (become r 3 (next random) (next (randomOf t)) 1000 (idleTimeOf t) time time) 2 event.Nothing z))
+          subst Carries-1000 (sym (out-is n m x d r (become r 3 (next random) (next (randomOf t)) 1000 (idleTimeOf t) time time) 2 event.Nothing z))
           (confirm-1000 (endOf r own) random net (drop (length x) d))) done;
     }
 

@@ -23,6 +23,7 @@ use Rattle.link.specs.Table.{Row, cell, reading, otherwise, Timeout-snd,
 use Rattle.link.specs.Judged.{rowOf, ruled, narrowed, expectedNow, runOut, judged, ticked}
 use Rattle.link.specs.declared.Verdict.the-variants.{Confirm, Close}
 use Rattle.link.specs.Steps.{declaredBy, actOut, openRefusal, openOf, openOut, closeRefusal, closeOf, sendRefusal, sendOf, receivedRefusal, receivedOf, receivedOut, tickRefusal, tickOf}
+use Rattle.link.specs.Plain.{idleTimeBy}
 use Rattle.link.specs.declared.Record.{Record}
 use Rattle.link.specs.declared.IdleTime.{IdleTime}
 
@@ -102,22 +103,25 @@ naming time = record { named = true; time = time }
 abbrev pub noneNamed : ℕ → IdleTime
 noneNamed beside = record { named = false; time = beside }
 
--- The connect telegram at the front of a buffer says 1,000: bytes 7 and 8 are E8h 03h (5.2.1.3, 5.2.2.2), and are read back so.
-pub record Says-1000 (out : List ℕ) : Type 0 where
+-- The connect telegram at the front of a buffer carries 1,000: bytes 7 and 8 (5.2.1.3, 5.2.2.2) are E8h 03h, lowest first (5.1.1.6), and are read back so.
+pub record Carries-1000 (out : List ℕ) : Type 0 where
   pub byte-7 : getD out 6 0 ≡ 0xE8
   pub byte-8 : getD out 7 0 ≡ 0x03
   pub read-back : idleTimeOf out ≡ 1000
 
--- An opening or a confirm that names no idle time declares 1,000 (change request e). One that is named is declared, 0 too. None named is never the cause of
--- answer 5. And 1,000 goes out: in the request of every opening that is done, and in the confirm of every request that is confirmed.
+-- An opening or a confirm that names no idle time declares 1,000 (change request e); a time that is named is declared, 0 too. Of C the flag 0 names none, and any
+-- other names the number beside it. None named is never the cause of answer 5. And 1,000 goes out: in the request of every opening that is done, and in the confirm
+-- of every request that is confirmed.
 pub record Unnamed : Type 0 where
   pub declares : (beside : ℕ) → declaredBy (noneNamed beside) ≡ 1000
   pub named : (time : ℕ) → declaredBy (naming time) ≡ time
+  pub flag-0 : (beside : ℕ) → idleTimeBy 0 beside ≡ noneNamed beside
+  pub flag-else : (flag time : ℕ) → (flag ≡ 0 → ⊥) → idleTimeBy flag time ≡ naming time
   pub never-refused : (beside count l : ℕ) → connectAllowed (declaredBy (noneNamed beside)) count l ≡ leb count (most Request l)
   pub written : (r : Record) (own time random beside : ℕ) (net d : List ℕ) → openOf r own time random (noneNamed beside) net d .answer .number ≡ 0
-      → Says-1000 (openOut r own random (noneNamed beside) net d)
+      → Carries-1000 (openOut r own random (noneNamed beside) net d)
   pub confirmed : (r : Record) (own time random beside : ℕ) (t net d : List ℕ) → judged r own time t ≡ Confirm
-      → receivedOf r own time random (noneNamed beside) t net d .answer .number ≡ 0 → Says-1000 (receivedOut r own time random (noneNamed beside) t net d)
+      → receivedOf r own time random (noneNamed beside) t net d .answer .number ≡ 0 → Carries-1000 (receivedOut r own time random (noneNamed beside) t net d)
 
 -- Waits: 5,000 ms after our last sending is in time, 5,001 is not.
 pub record Waits : Type 0 where

@@ -1,5 +1,5 @@
--- Worked example of the idle times of demand 2: the set-up of level 4 in SetUp.antt, in which neither node names one. The opener's
--- record declares and watches 1,000 afterwards, and ticks of each kind are done.
+-- Worked example of the idle times of demand 2: the set-up of level 4 in SetUp.antt, in which neither node names one. The opener's record declares and
+-- watches 1,000 afterwards, and its ticks do nothing, write an idle telegram and close, each at its time.
 -- Assumes nothing.
 use mathlib.Core.Path.{_≡_, refl}
 use mathlib.Core.List.{List, [], _∷_}
@@ -57,9 +57,11 @@ exampleTable =
 abbrev pub ticking : ℕ → Answer
 ticking time = called (Tick 0) exampleHead exampleTable time (replicate 244 0) .outcome .answer
 
--- A tick 499 after the last sending writes nothing, one after 500 an idle telegram (6), and one 1,001 after the acknowledgement a disconnect (5).
+-- A tick 499 after the last sending writes nothing, one after 500 an idle telegram (6); so does one that is still 1,000 after the acknowledgement, and after 1,001 it
+-- is a disconnect (5).
 pub example-keeps : ((opens called exampleUnnamed .outcome .head ≡ exampleHead) × (opens called exampleUnnamed .table ≡ exampleTable))
     × ((ticking 1519 ≡ record { number = 0; telegram = 0; length = 0 })
-    × ((ticking 1520 ≡ record { number = 0; telegram = 6; length = 8 }) × (ticking 2041 ≡ record { number = 0; telegram = 5; length = 10 })))
+    × ((ticking 1520 ≡ record { number = 0; telegram = 6; length = 8 })
+    × ((ticking 2040 ≡ record { number = 0; telegram = 6; length = 8 }) × (ticking 2041 ≡ record { number = 0; telegram = 5; length = 10 }))))
 unfolding called asked settled accepted boundsAccepted recordAccepted recordInRange endOf inRange isPhase isClosed goodIdle firstRefusal writingStep refusal openRefusal openOf openOut connectAllowed writesRequest request become receivedRefusal receivedOf receivedOut declaredBy judged passed expectedNow runOut checkOf wordAgrees levelOf quietly sealed body checkWord implicit topBits width wordLength generator generator48 shift feed kindOf writesConfirm confirm writesAuthentication authentication writesAcknowledgement acknowledgement added goodVersion goodNumber goodDualBus waitOver at atRest freshOf tickRefusal tickOf tickOut ticked runOutVerdict watchOver idleDue idle disconnect writesIdle writesDisconnect disconnectAllowed goodType listedReason closedBy taken sent pick
-example-keeps = ((refl, refl), (refl, (refl, refl)))
+example-keeps = ((refl, refl), (refl, (refl, (refl, refl))))

@@ -56,7 +56,7 @@ use Rattle.demands.specs.Demand3.{Two, Wrote}
 use Rattle.demands.specs.Demand3.Wrote.{idle}
 use Rattle.demands.specs.OneEnd.{By-an-answer}
 use Rattle.demands.specs.OneEnd.Looks-at.{tick, receipt}
-use Rattle.wrong.specs.WrongLinks.{judging, numbered, numberedBy, Numbering-by-our-number-is-ours, Passing-everything-is-shut-out, Passing-nothing-is-shut-out, Checking-by-our-word-is-ours, Constant-word-is-shut-out, Constant-word-passes-for-two, Addresses-from-the-frame-are-shut-out, Only-byte-1-compared-is-shut-out, Refusing-everything-is-shut-out, Saying-the-same-is-shut-out, Leaving-the-same-is-shut-out, One-outcome-always-is-shut-out, Leaving-table-and-buffer-idle-is-shut-out, Working-for-the-first-only-is-shut-out, Judging-by-our-rules-is-ours, Own-idle-time-watched-is-shut-out, Wait-of-5000-or-more-is-shut-out, Never-sending-idle-is-shut-out, Taking-what-comes-too-late-is-shut-out, Authentication-plus-1-at-both-levels-is-shut-out, Two-with-plus-1-open, Wrong-number-by-05-is-shut-out, Opening-by-any-number-is-shut-out, Closing-without-a-disconnect-is-shut-out, Writing-a-constant-word-is-shut-out, Two-with-a-constant-word-open, Exchanged-SAPs-are-shut-out, Two-with-exchanged-SAPs-open, Number-not-advanced-is-shut-out, Net-data-one-byte-further-are-shut-out, Open-at-the-confirm-is-shut-out, Reopening-is-shut-out, Closing-never-finally-is-shut-out, Record-by-place-is-shut-out, Record-by-place-and-frame-is-shut-out, Touching-the-neighbour-is-shut-out, Another-order-is-shut-out, Time-set-by-a-refusal-is-shut-out, Wrong-ones-are-shut-out}
+use Rattle.wrong.specs.WrongLinks.{judging, numbered, numberedBy, Numbering-by-our-number-is-ours, Passing-everything-is-shut-out, Passing-nothing-is-shut-out, Checking-by-our-word-is-ours, Constant-word-is-shut-out, Constant-word-passes-for-two, Addresses-from-the-frame-are-shut-out, Only-byte-1-compared-is-shut-out, Refusing-everything-is-shut-out, Saying-the-same-is-shut-out, Leaving-the-same-is-shut-out, One-outcome-always-is-shut-out, Leaving-table-and-buffer-idle-is-shut-out, Working-for-the-first-only-is-shut-out, Judging-by-our-rules-is-ours, Own-idle-time-watched-is-shut-out, Wait-of-5000-or-more-is-shut-out, Never-sending-idle-is-shut-out, Refusing-late-ticks-is-shut-out, Taking-what-comes-too-late-is-shut-out, Authentication-plus-1-at-both-levels-is-shut-out, Two-with-plus-1-open, Wrong-number-by-05-is-shut-out, Opening-by-any-number-is-shut-out, Closing-without-a-disconnect-is-shut-out, Writing-a-constant-word-is-shut-out, Two-with-a-constant-word-open, Exchanged-SAPs-are-shut-out, Two-with-exchanged-SAPs-open, Number-not-advanced-is-shut-out, Net-data-one-byte-further-are-shut-out, Open-at-the-confirm-is-shut-out, Reopening-is-shut-out, Closing-never-finally-is-shut-out, Record-by-place-is-shut-out, Record-by-place-and-frame-is-shut-out, Touching-the-neighbour-is-shut-out, Another-order-is-shut-out, Time-set-by-a-refusal-is-shut-out, Wrong-ones-are-shut-out}
 
 -- Checks
 
@@ -266,6 +266,13 @@ unfolding called asked settled accepted boundsAccepted recordAccepted recordInRa
 never-sending-idle-is-shut-out d =
     let z : _≡_ {A = ℕ} 0 6 =
     d .one-end .ticks-in-time .due head (at-2 9 5 0 500 0 ∷ []) 0 250 room refl (record { declares = λ e. omega arith; half = lit≤ tt; in-time = λ some. absurd (some refl) }) refl .writes in
+    omega arith
+
+-- 501 after the last telegram, with a watch of 500, a tick is refused.
+pub refusing-late-ticks-is-shut-out : Refusing-late-ticks-is-shut-out
+unfolding accepted boundsAccepted recordAccepted recordInRange endOf inRange isPhase isClosed goodIdle freshOf become runOut watchOver refusedOutcome pick
+refusing-late-ticks-is-shut-out d =
+    let z : _≡_ {A = ℕ} 3 0 = d .one-end .ticks-in-time .done head (at-2 9 5 0 0 500 ∷ []) 0 501 room refl (lit≤ tt) (lit≤ tt) (lit< tt) (λ e. omega arith) in
     omega arith
 
 -- A telegram of node 9, or of node 10, for node 8.
@@ -495,6 +502,7 @@ wrong-ones-are-shut-out =
       own-idle-time-watched = own-idle-time-watched-is-shut-out;
       wait-of-5000-or-more = wait-of-5000-or-more-is-shut-out;
       never-sending-idle = never-sending-idle-is-shut-out;
+      refusing-late-ticks = refusing-late-ticks-is-shut-out;
       taking-what-comes-too-late = taking-what-comes-too-late-is-shut-out;
       authentication-plus-1-at-both-levels = authentication-plus-1-at-both-levels-is-shut-out;
       two-with-plus-1-open = two-with-plus-1-open;

@@ -188,6 +188,18 @@ neverIdle = judging judged (λ r time. pick (runOut r time) (runOutVerdict (r .p
 abbrev pub Never-sending-idle-is-shut-out : Type 0
 Never-sending-idle-is-shut-out = Demand-2 neverIdle → ⊥
 
+-- A tick is refused, as in a phase that it is not for (3), where a wait or watch has run out: nobody closes a connection whose partner is silent.
+abbrev pub refusesLate : Link
+refusesLate (Tick place) h t time d =
+    pick (runOut (recordAt t place) time) (record { outcome = refusedOutcome 3 h; table = t; out = d }) (called (Tick place) h t time d)
+refusesLate (Open place random i net) h t time d = called (Open place random i net) h t time d
+refusesLate (Close place type reason text) h t time d = called (Close place type reason text) h t time d
+refusesLate (Send place low net) h t time d = called (Send place low net) h t time d
+refusesLate (Received w random i telegram net) h t time d = called (Received w random i telegram net) h t time d
+
+abbrev pub Refusing-late-ticks-is-shut-out : Type 0
+Refusing-late-ticks-is-shut-out = Demand-2 refusesLate → ⊥
+
 -- The timers are looked at on a tick only: a telegram that comes too late is taken, and its data are handed up.
 abbrev pub timersOnTicksOnly : Link
 timersOnTicksOnly = judging (λ r own time t. checkedBy (checkOf (endOf r own) (expectedNow r) t) r t) ticked
@@ -544,6 +556,7 @@ pub record Wrong-ones-are-shut-out : Type 0 where
   pub own-idle-time-watched : Own-idle-time-watched-is-shut-out
   pub wait-of-5000-or-more : Wait-of-5000-or-more-is-shut-out
   pub never-sending-idle : Never-sending-idle-is-shut-out
+  pub refusing-late-ticks : Refusing-late-ticks-is-shut-out
   pub taking-what-comes-too-late : Taking-what-comes-too-late-is-shut-out
   pub authentication-plus-1-at-both-levels : Authentication-plus-1-at-both-levels-is-shut-out
   pub two-with-plus-1-open : Two-with-plus-1-open
