@@ -1,6 +1,6 @@
 -- Links that declare another idle time than ours, and of each the statement that the numbers of demand 2 shut it out. `Demand-2-idle-times` does not name
--- `declaredBy`: a fault in that definition and in the code alike is such a link, and is shut out too. proofs/IdleTimes.antt proves each statement under the same
--- name in small letters.
+-- `declaredBy`: a fault in that definition and in the code alike is such a link, and is shut out too. proofs/IdleTimes.antt proves them as
+-- `wrong-idle-times-are-shut-out`.
 -- Assumes nothing.
 use mathlib.Core.Path.{_≡_}
 use mathlib.Core.Bool.{true, false}
