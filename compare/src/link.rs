@@ -1,9 +1,12 @@
-//! The second program's connection: section 5.5 for SL 4 and SL 2, as the scope narrows it. The table of 5.5.1.5 drives every step.
+//! The second program's connection: section 5.5 for SL 4 and SL 2, as the scope narrows it. The table of 5.5.1.5 drives
+//! every step.
 
 use crate::check::{byte, check, field, net_data, Verdict, SHORTEST};
 use crate::link_call::{Call, Naming};
 use crate::link_step::{Event, Record, Step, Stepped};
-use crate::telegram::{idle_time_allowed, written, End, Kind, Level, Telegram, BAD_TELEGRAM, BAD_VALUE, LONGEST, NO_ROOM, OUT_OF_RANGE};
+use crate::telegram::{
+    idle_time_allowed, written, End, Kind, Level, Telegram, BAD_TELEGRAM, BAD_VALUE, LONGEST, NO_ROOM, OUT_OF_RANGE,
+};
 use Happening::*;
 use Operation::*;
 
@@ -108,11 +111,12 @@ const DEFECT: Option<State> = Some(State::Defect);
 /// 5.5.1.5, row by row as printed: the actions, then the next states. The columns are the states in their order.
 ///
 /// These cells are not met as printed, because their event does not happen:
-/// - Timeout_snd in wAuthAck. The scope has idle due on an open record only. The record has no room for our random number, which is `sending` - 2 there, and
-///   an idle telegram would shift it.
+/// - Timeout_snd in wAuthAck. The scope has idle due on an open record only. The record has no room for our random
+///   number, which is `sending` - 2 there, and an idle telegram would shift it.
 /// - Timeout_rcv in wConAck, wAuthReq and wAuthAck. The watch starts with the last telegram of the set-up (5.2.6.2.1).
 /// - Timeout_brk in Data. f_04 and f_12 have stopped that timer.
-/// - 2nd Incorrect_rcv. It needs a time saved by f_11 or f_13, for which the record has no field. Each incorrect telegram is a first one.
+/// - 2nd Incorrect_rcv. It needs a time saved by f_11 or f_13, for which the record has no field. Each incorrect
+///   telegram is a first one.
 /// - Connect_snd, Data_snd, Discon_snd and FDiscon_snd where they do nothing: they are refused with 3.
 /// - All of Defect: every call is refused with 8.
 ///
@@ -260,21 +264,27 @@ impl Link {
         let telegram = match call.clone() {
             Call::Open { random, naming, net, .. } => Telegram::request(random, naming.declared(), net),
             Call::Received { random, naming, net, .. } => Telegram::confirm(random, naming.declared(), net),
-            Call::Close { new_setup, reason, text } => Telegram::disconnect(self.record.sending, new_setup, reason, text),
+            Call::Close { new_setup, reason, text } => {
+                Telegram::disconnect(self.record.sending, new_setup, reason, text)
+            }
             Call::Send { command, net, .. } => Telegram::data(self.record.sending, command, net),
             Call::Tick { .. } => return true,
         };
         telegram.allowed(self.level)
     }
 
-    /// The timer that has run out. The acknowledgement timer runs from f_01, f_02 or f_03 up to the next step of the set-up, the idle cycle timeout timer in
-    /// Data; the time at the limit itself is in time.
+    /// The timer that has run out. The acknowledgement timer runs from f_01, f_02 or f_03 up to the next step of the
+    /// set-up, the idle cycle timeout timer in Data; the time at the limit itself is in time.
     fn run_out(&self, now: u64) -> Option<Happening> {
         let record = &self.record;
         match self.state {
-            State::WConAck | State::WAuthReq | State::WAuthAck => (gap(record.sent_at, now) > ACKNOWLEDGEMENT_TIMEOUT).then(|| TimeoutBrk),
+            State::WConAck | State::WAuthReq | State::WAuthAck => {
+                (gap(record.sent_at, now) > ACKNOWLEDGEMENT_TIMEOUT).then(|| TimeoutBrk)
+            }
             // 5.2.6.3 and 5.2.6.4: the time received from the partner. 0 is no supervision.
-            State::Data if record.watched != 0 => (gap(record.taken_at, now) > u64::from(record.watched)).then(|| TimeoutRcv),
+            State::Data if record.watched != 0 => {
+                (gap(record.taken_at, now) > u64::from(record.watched)).then(|| TimeoutRcv)
+            }
             State::Data | State::Idle | State::Defect => None,
         }
     }
@@ -286,7 +296,8 @@ impl Link {
         (self.state == State::Data && declared != 0 && 2 * gap >= declared).then(|| TimeoutSnd)
     }
 
-    /// The scope: the number expected. Neither a closed record nor one that awaits a confirm knows its partner's; 0 is expected then.
+    /// The scope: the number expected. Neither a closed record nor one that awaits a confirm knows its partner's; 0 is
+    /// expected then.
     fn number_expected(&self) -> u32 {
         match self.state {
             State::Idle | State::WConAck => 0,
@@ -311,20 +322,23 @@ impl Link {
         }
     }
 
-    /// The event that a call is; none for a tick that finds nothing due. What has run out comes before the telegram, and before idle.
+    /// The event that a call is; none for a tick that finds nothing due. What has run out comes before the telegram,
+    /// and before idle.
     fn happening(&self, call: &Call) -> Option<Happening> {
         match call {
             Call::Open { .. } => Some(ConnectSnd),
             Call::Send { .. } => Some(DataSnd),
             Call::Close { new_setup: FINAL, .. } => Some(FDisconSnd),
             Call::Close { .. } => Some(DisconSnd),
-            Call::Received { time, telegram, .. } => Some(self.run_out(*time).unwrap_or_else(|| self.arrival(telegram))),
+            Call::Received { time, telegram, .. } => {
+                Some(self.run_out(*time).unwrap_or_else(|| self.arrival(telegram)))
+            }
             Call::Tick { time } => self.run_out(*time).or_else(|| self.idle_due(*time)),
         }
     }
 
-    /// 5.1.4: whether the number is our random number after processing. That is the number of our confirm, the last telegram sent, or of our request, the last
-    /// but one.
+    /// 5.1.4: whether the number is our random number after processing. That is the number of our confirm, the last
+    /// telegram sent, or of our request, the last but one.
     fn authentic(&self, telegram: &[u8]) -> bool {
         let sent = if self.state == State::WAuthReq { 1 } else { 2 };
         let random = self.record.sending.wrapping_sub(sent);
@@ -341,7 +355,11 @@ impl Link {
             // 5.2.5.8.3: authentication number incorrect.
             (AuthReqRcv, State::WAuthReq) | (AuthAckRcv, State::WAuthAck) if !self.authentic(telegram) => (F08, DEFECT),
             // 5.2.5.5: following a final disconnection, the connection cannot be established again.
-            (DisconRcv, State::WConAck | State::WAuthReq | State::WAuthAck | State::Data) if new_setup_desired(telegram) == FINAL => (F00, DEFECT),
+            (DisconRcv, State::WConAck | State::WAuthReq | State::WAuthAck | State::Data)
+                if new_setup_desired(telegram) == FINAL =>
+            {
+                (F00, DEFECT)
+            }
             _ => printed(happening, self.state),
         }
     }
@@ -371,7 +389,8 @@ impl Link {
             declared,
             ..record
         };
-        let disconnect = |new_setup| Telegram::disconnect(number, new_setup, self.reason(happening, call), call.text().to_vec());
+        let disconnect =
+            |new_setup| Telegram::disconnect(number, new_setup, self.reason(happening, call), call.text().to_vec());
         match operation {
             F00 | F13 => (record, None),
             F01 => (sent(ours(record), time), Some(Telegram::request(random, declared, net))),

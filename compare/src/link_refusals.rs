@@ -81,11 +81,13 @@ fn not_cleared(closed: Record) -> Vec<Record> {
     records
 }
 
-/// The record and the own address with every field in turn at its limits and out of range, and whether that is out of range.
+/// The record and the own address with every field in turn at its limits and out of range, and whether that is out of
+/// range.
 pub fn variations(record: Record, own: u32) -> Vec<(Record, u32, bool)> {
     const BAD_PHASES: [u32; 9] = [0, 7, 8, 255, 256 + 1, 256 + 5, 0x1_0001, 0x8000_0000, u32::MAX];
     let ends = limits(record.end(own)).into_iter();
-    let mut variations: Vec<(Record, u32, bool)> = ends.map(|(end, answer)| (record.between(&end), end.own, answer == 1)).collect();
+    let mut variations: Vec<(Record, u32, bool)> =
+        ends.map(|(end, answer)| (record.between(&end), end.own, answer == 1)).collect();
     variations.extend(BAD_PHASES.map(|phase| (Record { phase, ..record }, own, true)));
     if [CLOSED, FINALLY_CLOSED].contains(&record.phase) {
         variations.extend(not_cleared(record).into_iter().map(|record| (record, own, true)));
@@ -145,7 +147,9 @@ pub fn bad_telegrams(call: &Call) -> Vec<Call> {
 pub fn bad_values(call: &Call) -> Vec<Call> {
     let call = call.clone();
     match call {
-        Call::Open { .. } | Call::Received { .. } => vec![call.clone().with_naming(naming(50)), call.with_net(pattern(229))],
+        Call::Open { .. } | Call::Received { .. } => {
+            vec![call.clone().with_naming(naming(50)), call.with_net(pattern(229))]
+        }
         Call::Send { .. } => vec![call.clone().with_command(0x0D), call.with_net(pattern(239))],
         Call::Close { .. } => vec![close(2, 0x20), close(1, 0x08), call.with_text(pattern(41))],
         Call::Tick { .. } => vec![],
@@ -166,7 +170,8 @@ pub fn order() -> Vec<Case> {
     cases
 }
 
-/// The call where all these refusals hold; nothing where they can't. A finally closed record is in the wrong phase too, for all but close.
+/// The call where all these refusals hold; nothing where they can't. A finally closed record is in the wrong phase too,
+/// for all but close.
 fn all_holding(chosen: &[u32], end: End, call: &Call) -> Vec<Case> {
     let has = |number: u32| chosen.contains(&number);
     let by_phase = [8, 3].into_iter().find(|number| has(*number)).unwrap_or(0);
@@ -209,7 +214,8 @@ pub fn rooms() -> Vec<Case> {
     cases
 }
 
-/// Telegrams received of every length up to 260, and of greater ones that a narrower number would wrap into good ones, in every phase. They fail the check.
+/// Telegrams received of every length up to 260, and of greater ones that a narrower number would wrap into good ones,
+/// in every phase. They fail the check.
 pub fn telegram_lengths() -> Vec<Case> {
     let mut cases = Vec::new();
     for (record, own) in records() {
@@ -279,7 +285,8 @@ fn declaring(record: &Record, call: &Call, declared: u32) -> Demand {
     }
 }
 
-/// Net data lent to open, send and received, and a text lent to close, of lengths around each limit: in received they are measured in every phase.
+/// Net data lent to open, send and received, and a text lent to close, of lengths around each limit: in received they
+/// are measured in every phase.
 pub fn net_lengths() -> Vec<Case> {
     let lengths = (0..=4)
         .chain(38..=43)
@@ -332,7 +339,9 @@ pub fn types_and_reasons() -> Vec<Case> {
                 let finally = new_setup == 0;
                 let closed = Record::closed(&record.end(own), if finally { FINALLY_CLOSED } else { CLOSED });
                 let demand = match demand_of_values(good, &call, record.phase) {
-                    Demand::NotRefused => Demand::Done(closed, Some(Kind::Disconnect), Event::Closed { reason, finally }),
+                    Demand::NotRefused => {
+                        Demand::Done(closed, Some(Kind::Disconnect), Event::Closed { reason, finally })
+                    }
                     refused => refused,
                 };
                 cases.push(Case::new(record, own, call, demand));

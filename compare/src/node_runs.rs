@@ -1,4 +1,5 @@
-//! The lines of the scope that are marked "Run" and are about tables and openings, each as a case with its name, by both programs.
+//! The lines of the scope that are marked "Run" and are about tables and openings, each as a case with its name, by
+//! both programs.
 
 use crate::library_node;
 use crate::link_call::{Call, Naming};
@@ -118,7 +119,8 @@ pub fn run(tally: &mut Tally) {
     tally.told("the scope, the lines on tables and openings: each by both programs");
 }
 
-/// A new head and a fresh record, in the library as in the scope, by the numbers that they are given, whatever these are.
+/// A new head and a fresh record, in the library as in the scope, by the numbers that they are given, whatever these
+/// are.
 pub fn beginnings(tally: &mut Tally) {
     const NUMBERS: [u32; 9] = [0, 1, 8, 62, 63, 126, 127, 256, u32::MAX];
     for own in NUMBERS {

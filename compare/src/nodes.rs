@@ -19,8 +19,8 @@ pub fn compare_all(tally: &mut Tally) {
     bus_run::random(tally);
 }
 
-/// Each wrong node is seen by the group named with it: so the comparisons can fail. One that is made in the same way and
-/// isn't wrong is seen by none.
+/// Each wrong node is seen by the group named with it: so the comparisons can fail. One that is made in the same way
+/// and isn't wrong is seen by none.
 fn wrong_nodes_are_seen(tally: &mut Tally) {
     let sees = |wrong: &Wrong| (wrong.seen_by)().iter().any(|case| case.sees(&*wrong.program));
     for wrong in wrong_nodes() {

@@ -1,5 +1,5 @@
-//! Connections that are wrong in what a call may have, in their refusals, in the buffer and in what they tell. Each is seen by the group named with it: so the
-//! comparisons can fail.
+//! Connections that are wrong in what a call may have, in their refusals, in the buffer and in what they tell. Each is
+//! seen by the group named with it: so the comparisons can fail.
 
 use crate::check::field;
 use crate::link_call::{Call, Naming};

@@ -26,6 +26,7 @@ use Rattle.link.specs.Times.{watchOver, idleDue}
 use Rattle.link.specs.Judged.{ticked, runOut, runOutVerdict, judged, passed, expectedNow}
 use Rattle.link.specs.Steps as steps
 use Rattle.link.specs.Steps.{firstRefusal, writingStep, sendRefusal, sendOf, sendOut, tickRefusal, tickOf, tickOut, closeRefusal, closeOf, closeOut, receivedRefusal, receivedOf, receivedOut, declaredBy, quietly}
+use Rattle.link.specs.Facts.{noneNamed}
 use Rattle.link.specs.declared.Record.{Record}
 use Rattle.node.specs.Accepted.{recordAt, accepted, boundsAccepted, recordAccepted}
 use Rattle.node.specs.Calls.{Call, placeOf, called, asked, settled}
@@ -56,7 +57,7 @@ exampleOpen = exampleRecord 4 9 0x01234569 0x89ABCDF1 1000
 
 -- The receipt of a telegram from this sender, with neither an idle time named nor net data for a possible confirm.
 abbrev pub exampleReceipt : ℕ → List ℕ → Call
-exampleReceipt sender telegram = Received (record { sender = sender; «destination_sap» = 3; «source_sap» = 3 }) 0 (record { named = false; time = 0 }) telegram []
+exampleReceipt sender telegram = Received (record { sender = sender; «destination_sap» = 3; «source_sap» = 3 }) 0 (noneNamed 0) telegram []
 
 -- The two nodes: node 8 sends 01234569h next and expects 89ABCDF1h, and node 9 the other way round. Node 9 last took a telegram at this time.
 abbrev pub exampleNodesAt : ℕ → ℕ → Nodes
@@ -89,7 +90,7 @@ exampleMoment time =
       buffer = replicate 244 0;
       buffer′ = replicate 244 0;
       random = 0;
-      idle-time = record { named = false; time = 0 };
+      idle-time = noneNamed 0;
       net = [];
     }
 

@@ -19,6 +19,7 @@ use Rattle.link.specs.Records.{endOf, recordInRange, isPhase, isClosed, atRest,
 use Rattle.link.specs.Times.{watchOver, waitOver}
 use Rattle.link.specs.Judged.{judged, passed, expectedNow, runOut, runOutVerdict, ticked}
 use Rattle.link.specs.Steps.{firstRefusal, writingStep, declaredBy, openRefusal, openOf, openOut, receivedRefusal, receivedOf, receivedOut, tickRefusal, tickOf, tickOut}
+use Rattle.link.specs.Facts.{noneNamed}
 use Rattle.link.specs.declared.Record.{Record}
 use Rattle.node.specs.Accepted.{accepted, boundsAccepted, recordAccepted}
 use Rattle.node.specs.Calls.{Call, Left, called, asked, settled}
@@ -38,7 +39,7 @@ exampleWaiting phase = become (freshOf 9 3 3 4) phase 0x01234569 0 500 0 1000 0
 -- The request of a node 9 that was restarted and asks anew.
 abbrev pub exampleRequest : List ℕ
 exampleRequest =
-    telegramOf (called (Open 0 0x89ABCDEF (record { named = false; time = 0 }) []) (record { own = 9; latest = 0 }) (freshOf 8 3 3 4 ∷ []) 1300 (replicate 244 0))
+    telegramOf (called (Open 0 0x89ABCDEF (noneNamed 0) []) (record { own = 9; latest = 0 }) (freshOf 8 3 3 4 ∷ []) 1300 (replicate 244 0))
 
 -- So its record at place 0 is closed, with this reason and finally or not.
 abbrev pub Closes-it : Call → Record → ℕ → ℕ → Bool → Type 0

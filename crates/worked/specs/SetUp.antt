@@ -22,6 +22,7 @@ use Rattle.link.specs.Records.{recordInRange, endOf, isPhase, isClosed, become,
 use Rattle.link.specs.Times.{waitOver}
 use Rattle.link.specs.Judged.{judged, ticked, passed, expectedNow, runOut, goodVersion, goodNumber}
 use Rattle.link.specs.Steps.{firstRefusal, writingStep, openRefusal, openOf, openOut, receivedRefusal, receivedOf, receivedOut, tickRefusal, tickOf, declaredBy, quietly}
+use Rattle.link.specs.Facts.{noneNamed}
 use Rattle.node.specs.Heads.{at}
 use Rattle.node.specs.Accepted.{recordAt, accepted, boundsAccepted, recordAccepted}
 use Rattle.node.specs.Calls.{Call, refusedOutcome, called, asked, settled}
@@ -33,7 +34,7 @@ use Rattle.demands.specs.SetUp.{Given, Parties, tableThen, asks, Undisturbed, A
 
 -- Worked example: what a call is given at this time, with this random number and these net data, and no idle time named.
 abbrev pub exampleGiven : ℕ → ℕ → List ℕ → Given
-exampleGiven time random net = record { time = time; out = replicate 244 0; random = random; idle-time = record { named = false; time = 0 }; net = net }
+exampleGiven time random net = record { time = time; out = replicate 244 0; random = random; idle-time = noneNamed 0; net = net }
 
 -- A call of a node with a buffer that has room.
 abbrev pub exampleMade : Call → ℕ → Made
@@ -109,7 +110,7 @@ example-sets-up = (
 abbrev pub exampleBusy : Parties
 exampleBusy =
     exampleParties 4 0x01234567 0x89ABCDEF
-    (exampleMade (Send 2 0x09 []) 1003 ∷ exampleMade (Open 1 5 (record { named = false; time = 0 }) []) 1005 ∷ exampleMade (Tick 0) 1015 ∷ []) (exampleMade (Tick 0) 1025 ∷ [])
+    (exampleMade (Send 2 0x09 []) 1003 ∷ exampleMade (Open 1 5 (noneNamed 0) []) 1005 ∷ exampleMade (Tick 0) 1015 ∷ []) (exampleMade (Tick 0) 1025 ∷ [])
     (exampleMade (Tick 0) 1035 ∷ [])
 
 -- Then too nothing disturbs it, and all that is given fits; and the call for node 10 was done: a confirm is awaited of it.

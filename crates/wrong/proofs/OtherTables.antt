@@ -35,10 +35,10 @@ use Rattle.link.specs.Times.{waitOver, watchOver, idleDue}
 use Rattle.link.specs.Table.{Cell, Row, _⇒_, f00, defect, reading, Connect-snd, Data-snd, Timeout-snd, Timeout-rcv, Timeout-brk, Data-rcv, Idle-rcv, Incorrect-rcv-1st, Incorrect-rcv-2nd, ConReq-rcv, ConAck-rcv, AuthReq-rcv, AuthAck-rcv, Discon-snd, FDiscon-snd, Discon-rcv}
 use Rattle.link.specs.Judged.{rowOf, goodVersion, goodNumber, back, expectedNow, runOut}
 use Rattle.link.specs.Steps.{firstRefusal, declaredBy, openRefusal, openOf, openOut, closeRefusal, closeOf, closeOut, sendRefusal, sendOf, sendOut, receivedRefusal, receivedOf, receivedOut, tickRefusal, tickOf, tickOut}
+use Rattle.link.specs.Facts.{noneNamed}
 use Rattle.link.specs.Bound.{Sent, none, connectRequest, connectConfirm, authentication, acknowledgement, dataTelegram, idleTelegram, disconnect, finalDisconnect, numberOf, Stands, ofPhase, Obeys, Keeps, instead, Timer, interval, watch, wait, rowOfTimer, runs, Table-binds}
 use Rattle.wrong.specs.OtherTables.{Alike, No-other-table}
 use Rattle.link.specs.declared.Record.{Record}
-use Rattle.link.specs.declared.IdleTime.{IdleTime}
 use Rattle.link.specs.declared.Step.{Step}
 
 -- What a step does, both tables say
@@ -125,17 +125,14 @@ at p declares watches =
       «taken_at» = 0;
     }
 
-abbrev unnamed : IdleTime
-unnamed = record { named = false; time = 0 }
-
 abbrev room : List ℕ
 room = replicate 244 0
 
 -- What the layer above asks for
 
-asked-open : (p : ℕ) → 1 ≤ p → p ≤ 6 → ofPhase (openRefusal (at p 0 0) 8 unnamed [] room) ≡ true
+asked-open : (p : ℕ) → 1 ≤ p → p ≤ 6 → ofPhase (openRefusal (at p 0 0) 8 (noneNamed 0) [] room) ≡ true
 unfolding openRefusal firstRefusal recordInRange isPhase isClosed atRest inRange endOf goodIdle connectAllowed declaredBy wordLength pick
-asked-open p l h = columns (λ (q : ℕ). ofPhase (openRefusal (at q 0 0) 8 unnamed [] room) ≡ true) p l h refl refl refl refl refl refl
+asked-open p l h = columns (λ (q : ℕ). ofPhase (openRefusal (at q 0 0) 8 (noneNamed 0) [] room) ≡ true) p l h refl refl refl refl refl refl
 
 asked-send : (p : ℕ) → 1 ≤ p → p ≤ 6 → ofPhase (sendRefusal (at p 0 0) 8 0x20 [] room) ≡ true
 unfolding sendRefusal firstRefusal recordInRange isPhase isClosed atRest inRange endOf goodIdle dataAllowed isData wordLength pick
@@ -181,7 +178,7 @@ unfolding goodIdle runOut waitOver pick
 waited p l h =
     seen Timeout-brk (at p 0 0) 8 5001 room (tickOf (at p 0 0) 8 5001 room) (tickOut (at p 0 0) 8 5001 room)
     (rw (answers .by-tick (at p 0 0) 8 5001 room) (ticking p 0 0 refl refl l (omega arith)))
-    (λ table binds. binds .waited (at p 0 0) 8 5001 0 unnamed [] [] room (λ e. omega arith) (out p l h) .1)
+    (λ table binds. binds .waited (at p 0 0) 8 5001 0 (noneNamed 0) [] [] room (λ e. omega arith) (out p l h) .1)
   where
     out : (p : ℕ) → 2 ≤ p → p ≤ 4 → runOut (at p 0 0) 5001 ≡ true
     out p l h =
@@ -194,7 +191,7 @@ unfolding goodIdle runOut watchOver pick
 silent =
     seen Timeout-rcv (at 5 0 100) 8 101 room (tickOf (at 5 0 100) 8 101 room) (tickOut (at 5 0 100) 8 101 room)
     (rw (answers .by-tick (at 5 0 100) 8 101 room) (ticking 5 0 100 refl refl (omega arith) (omega arith)))
-    (λ table binds. binds .silent (at 5 0 100) 8 101 0 unnamed [] [] room refl refl .1)
+    (λ table binds. binds .silent (at 5 0 100) 8 101 0 (noneNamed 0) [] [] room refl refl .1)
 
 due : Seen Timeout-snd 5
 unfolding goodIdle runOut watchOver idleDue pick
@@ -205,10 +202,10 @@ due =
 
 -- Telegrams
 
-receiving : (p : ℕ) (t : List ℕ) → onBus (length t) ≡ true → 1 ≤ p → p ≤ 6 → ofPhase (receivedRefusal (at p 0 0) 8 unnamed t [] room) ≡ true
+receiving : (p : ℕ) (t : List ℕ) → onBus (length t) ≡ true → 1 ≤ p → p ≤ 6 → ofPhase (receivedRefusal (at p 0 0) 8 (noneNamed 0) t [] room) ≡ true
 unfolding receivedRefusal firstRefusal recordInRange isPhase isClosed atRest inRange endOf goodIdle connectAllowed declaredBy wordLength pick
 receiving p t b l h =
-    columns (λ (q : ℕ). ofPhase (receivedRefusal (at q 0 0) 8 unnamed t [] room) ≡ true) p l h (rw b) (rw b) (rw b) (rw b) (rw b) (rw b)
+    columns (λ (q : ℕ). ofPhase (receivedRefusal (at q 0 0) 8 (noneNamed 0) t [] room) ≡ true) p l h (rw b) (rw b) (rw b) (rw b) (rw b) (rw b)
 
 expects : (p : ℕ) → expectedNow (at p 0 0) ≡ 0
 unfolding expectedNow pick
@@ -228,11 +225,11 @@ fails = refl
 
 failed : (row : Row) (p : ℕ) → 1 ≤ p → p ≤ 6
     → ((table : Row → ℕ → Cell) → Table-binds table → checkOf (endOf (at p 0 0) 8) (expectedNow (at p 0 0)) zeros ≡ Failed clause.Level
-    → Keeps (table row p) (at p 0 0) 8 0 room (receivedOf (at p 0 0) 8 0 0 unnamed zeros [] room) (receivedOut (at p 0 0) 8 0 0 unnamed zeros [] room)) → Seen row p
+    → Keeps (table row p) (at p 0 0) 8 0 room (receivedOf (at p 0 0) 8 0 0 (noneNamed 0) zeros [] room) (receivedOut (at p 0 0) 8 0 0 (noneNamed 0) zeros [] room)) → Seen row p
 unfolding endOf pick
 failed row p l h by =
-    seen row (at p 0 0) 8 0 room (receivedOf (at p 0 0) 8 0 0 unnamed zeros [] room) (receivedOut (at p 0 0) 8 0 0 unnamed zeros [] room)
-    (rw (answers .by-received (at p 0 0) 8 0 0 unnamed zeros [] room) (receiving p zeros refl l h)) (λ table binds. by table binds (rw (expects p) fails))
+    seen row (at p 0 0) 8 0 room (receivedOf (at p 0 0) 8 0 0 (noneNamed 0) zeros [] room) (receivedOut (at p 0 0) 8 0 0 (noneNamed 0) zeros [] room)
+    (rw (answers .by-received (at p 0 0) 8 0 0 (noneNamed 0) zeros [] room) (receiving p zeros refl l h)) (λ table binds. by table binds (rw (expects p) fails))
 
 -- node 9's end of the connection writes
 abbrev there : End
@@ -242,13 +239,13 @@ there = record { own = 9; partner = 8; «partner_sap» = 3; «local_sap» = 3; l
 seen-of : (k : Kind) (p : ℕ) (t : List ℕ) (vs net : List ℕ) → 1 ≤ p → p ≤ 6 → Taken there 0 t k vs net → ((c : Cell) → instead k p (at p 0 0) t c ≡ c) → Seen (rowOf k) p
 unfolding endOf
 seen-of k p t vs net l h taken plain =
-    seen (rowOf k) (at p 0 0) 8 0 room (receivedOf (at p 0 0) 8 0 0 unnamed t [] room) (receivedOut (at p 0 0) 8 0 0 unnamed t [] room)
-    (rw (answers .by-received (at p 0 0) 8 0 0 unnamed t [] room) (receiving p t (passed (mirrored there) 0 t (taken .passes) .on-bus) l h))
-    (λ table binds. of-kind table (binds .passing (at p 0 0) 8 0 0 unnamed t [] room (in-time p l h) (rw (expects p) (taken .passes))))
+    seen (rowOf k) (at p 0 0) 8 0 room (receivedOf (at p 0 0) 8 0 0 (noneNamed 0) t [] room) (receivedOut (at p 0 0) 8 0 0 (noneNamed 0) t [] room)
+    (rw (answers .by-received (at p 0 0) 8 0 0 (noneNamed 0) t [] room) (receiving p t (passed (mirrored there) 0 t (taken .passes) .on-bus) l h))
+    (λ table binds. of-kind table (binds .passing (at p 0 0) 8 0 0 (noneNamed 0) t [] room (in-time p l h) (rw (expects p) (taken .passes))))
   where
     of-kind : (table : Row → ℕ → Cell)
-        → Keeps (instead (kindOfCommand (commandOf t)) p (at p 0 0) t (table (rowOf (kindOfCommand (commandOf t))) p)) (at p 0 0) 8 0 room (receivedOf (at p 0 0) 8 0 0 unnamed t [] room) (receivedOut (at p 0 0) 8 0 0 unnamed t [] room)
-        → Keeps (table (rowOf k) p) (at p 0 0) 8 0 room (receivedOf (at p 0 0) 8 0 0 unnamed t [] room) (receivedOut (at p 0 0) 8 0 0 unnamed t [] room)
+        → Keeps (instead (kindOfCommand (commandOf t)) p (at p 0 0) t (table (rowOf (kindOfCommand (commandOf t))) p)) (at p 0 0) 8 0 room (receivedOf (at p 0 0) 8 0 0 (noneNamed 0) t [] room) (receivedOut (at p 0 0) 8 0 0 (noneNamed 0) t [] room)
+        → Keeps (table (rowOf k) p) (at p 0 0) 8 0 room (receivedOf (at p 0 0) 8 0 0 (noneNamed 0) t [] room) (receivedOut (at p 0 0) 8 0 0 (noneNamed 0) t [] room)
     of-kind table x = rw (← plain (table (rowOf k) p), ← taken .kind) x
 
 either-way : (b : Bool) (c : Cell) → pick b c c ≡ c
@@ -310,8 +307,8 @@ sent-data p l h = seen-of kind.Data p (telegrams.dataTelegram there 0 0x20 []) _
 pub no-other-table : No-other-table
 unfolding pick
 no-other-table table binds Connect-snd p l h =
-    seen Connect-snd (at p 0 0) 8 0 room (openOf (at p 0 0) 8 0 0 unnamed [] room) (openOut (at p 0 0) 8 0 unnamed [] room)
-    (rw (answers .by-open (at p 0 0) 8 0 0 unnamed [] room) (asked-open p l h)) (λ table binds. binds .connect-snd (at p 0 0) 8 0 0 unnamed [] room) table binds
+    seen Connect-snd (at p 0 0) 8 0 room (openOf (at p 0 0) 8 0 0 (noneNamed 0) [] room) (openOut (at p 0 0) 8 0 (noneNamed 0) [] room)
+    (rw (answers .by-open (at p 0 0) 8 0 0 (noneNamed 0) [] room) (asked-open p l h)) (λ table binds. binds .connect-snd (at p 0 0) 8 0 0 (noneNamed 0) [] room) table binds
 no-other-table table binds Data-snd p l h =
     seen Data-snd (at p 0 0) 8 0 room (sendOf (at p 0 0) 8 0 0x20 [] room) (sendOut (at p 0 0) 8 0x20 [] room)
     (rw (answers .by-send (at p 0 0) 8 0 0x20 [] room) (asked-send p l h)) (λ table binds. binds .data-snd (at p 0 0) 8 0 0x20 [] room) table binds
@@ -331,9 +328,9 @@ no-other-table table binds Timeout-brk p l h =
     columns (λ (q : ℕ). Seen Timeout-brk q) p l h (resting wait 1 (omega arith) (omega arith) refl) (waited 2 (omega arith) (omega arith)) (waited 3 (omega arith) (omega arith))
     (waited 4 (omega arith) (omega arith)) (resting wait 5 (omega arith) (omega arith) refl) (resting wait 6 (omega arith) (omega arith) refl) table binds
 no-other-table table binds Incorrect-rcv-1st p l h =
-    failed Incorrect-rcv-1st p l h (λ table binds e. binds .failing (at p 0 0) 8 0 0 unnamed zeros [] room clause.Level (in-time p l h) e .0) table binds
+    failed Incorrect-rcv-1st p l h (λ table binds e. binds .failing (at p 0 0) 8 0 0 (noneNamed 0) zeros [] room clause.Level (in-time p l h) e .0) table binds
 no-other-table table binds Incorrect-rcv-2nd p l h =
-    failed Incorrect-rcv-2nd p l h (λ table binds e. binds .failing (at p 0 0) 8 0 0 unnamed zeros [] room clause.Level (in-time p l h) e .1) table binds
+    failed Incorrect-rcv-2nd p l h (λ table binds e. binds .failing (at p 0 0) 8 0 0 (noneNamed 0) zeros [] room clause.Level (in-time p l h) e .1) table binds
 no-other-table table binds Data-rcv p l h = sent-data p l h table binds
 no-other-table table binds Idle-rcv p l h = idled p l h table binds
 no-other-table table binds ConReq-rcv p l h = requested p l h table binds

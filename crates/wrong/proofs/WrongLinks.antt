@@ -33,9 +33,9 @@ use Rattle.link.specs.Times.{waitOver, watchOver, idleDue}
 use Rattle.link.specs.Judged.{rowOf, ruled, narrowed, checkedBy, judged, passed, expectedNow, runOut, runOutVerdict, ticked, goodVersion, goodNumber}
 use Rattle.link.specs.Steps as steps
 use Rattle.link.specs.Steps.{firstRefusal, writingStep, declaredBy, quietly, taken, openRefusal, openOf, openOut, closeRefusal, closeOf, sendRefusal, sendOf, sendOut, receivedRefusal, receivedOf, receivedOut, tickRefusal, tickOf, tickOut}
+use Rattle.link.specs.Facts.{noneNamed}
 use Rattle.link.specs.Plain.{happened}
 use Rattle.link.specs.declared.Record.{Record}
-use Rattle.link.specs.declared.IdleTime.{IdleTime}
 use Rattle.link.specs.declared.Event.{Event}
 use Rattle.link.specs.declared.Event.the-variants.{Opened}
 use Rattle.link.specs.declared.Verdict.{Verdict}
@@ -175,15 +175,12 @@ connected =
       back = record { here = lit< tt; there = lit< tt; open-to = record { ends = refl; open-here = refl; open-there = refl; number = refl } };
     }
 
--- A buffer, no idle time named, and a telegram that is sent at this time and received 50 later.
+-- A buffer, and a telegram that is sent at this time and received 50 later, with no idle time named for a confirm.
 abbrev room : List ℕ
 room = replicate 244 0
 
-abbrev unnamed : IdleTime
-unnamed = record { named = false; time = 0 }
-
 abbrev moment : ℕ → Moment
-moment time = record { sent-at = time; received-at = time + 50; buffer = room; buffer′ = room; random = 0; idle-time = unnamed; net = [] }
+moment time = record { sent-at = time; received-at = time + 50; buffer = room; buffer′ = room; random = 0; idle-time = noneNamed 0; net = [] }
 
 nothing-wrong : Nothing-wrong nodes 0 (moment 100)
 unfolding accepted boundsAccepted recordAccepted recordInRange endOf inRange isPhase isClosed goodIdle freshOf become connectAllowed declaredBy pick wordLength
@@ -277,7 +274,7 @@ refusing-late-ticks-is-shut-out d =
 
 -- A telegram of node 9, or of node 10, for node 8.
 abbrev from : ℕ → List ℕ → Call
-from sender telegram = Received (record { sender = sender; «destination_sap» = 3; «source_sap» = 3 }) 0 unnamed telegram []
+from sender telegram = Received (record { sender = sender; «destination_sap» = 3; «source_sap» = 3 }) 0 (noneNamed 0) telegram []
 
 -- Data 09h of node 9 with the net byte 1, which pass the check, come 501 after the last telegram, with a watch of 500: they are handed up (2), where the
 -- connection is to be closed (3).
@@ -290,7 +287,7 @@ taking-what-comes-too-late-is-shut-out d =
     let z : _≡_ {A = ℕ} 2 3 =
     ap (λ (x : Event). happened x .event)
     (d .one-end .silence-closes-here (from 9 data-of-9) head (at-2 9 5 0 0 500 ∷ []) 0 501 room
-    (receipt (record { sender = 9; «destination_sap» = 3; «source_sap» = 3 }) 0 unnamed data-of-9 [] refl refl) refl (λ e. omega arith) (lit< tt) refl .says) in
+    (receipt (record { sender = 9; «destination_sap» = 3; «source_sap» = 3 }) 0 (noneNamed 0) data-of-9 [] refl refl) refl (λ e. omega arith) (lit< tt) refl .says) in
     omega arith
 
 pub numbering-by-our-number-is-ours : Numbering-by-our-number-is-ours
@@ -350,7 +347,7 @@ wrong-number-by-05-is-shut-out d =
     (record {
       route = record { sender = 9; «destination_sap» = 3; «source_sap» = 3 };
       random = 0;
-      idle-time = unnamed;
+      idle-time = noneNamed 0;
       telegram = acknowledged-1;
       net = [];
       head = head;
@@ -407,7 +404,7 @@ unfolding called asked settled accepted boundsAccepted recordAccepted recordInRa
 net-data-one-byte-further-are-shut-out d =
     let z : _≡_ {A = ℕ} 0x9C 0x01 =
     ap (λ (l : List ℕ). getD l 0 0)
-    (d .one-end .net-data-handed-on (record { sender = 9; «destination_sap» = 3; «source_sap» = 3 }) 0 unnamed data-of-9 [] head
+    (d .one-end .net-data-handed-on (record { sender = 9; «destination_sap» = 3; «source_sap» = 3 }) 0 (noneNamed 0) data-of-9 [] head
     (nodes .table) 0 room refl) in
     omega arith
 
@@ -429,7 +426,7 @@ unfolding called asked settled accepted boundsAccepted recordAccepted recordInRa
 reopening-is-shut-out d =
     let z : _≡_ {A = ℕ} 2 6 =
     ap (λ (r : Record). r .phase)
-    (d .one-end .never-reopens head (at-2 9 6 0 0 0 ∷ []) (record { call = Open 0 0 unnamed []; time = 0; buffer = room } ∷ []) 0 refl) in
+    (d .one-end .never-reopens head (at-2 9 6 0 0 0 ∷ []) (record { call = Open 0 0 (noneNamed 0) []; time = 0; buffer = room } ∷ []) 0 refl) in
     omega arith
 
 -- Closed finally, by the layer above.

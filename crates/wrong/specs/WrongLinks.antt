@@ -25,6 +25,7 @@ use Rattle.link.specs.Records.{endOf, freshOf, become, closedBy}
 use Rattle.link.specs.Table.{Incorrect-rcv-1st}
 use Rattle.link.specs.Judged.{rowOf, ruled, narrowed, checkedBy, back, goodNumber, expectedNow, runOut, runOutVerdict, judged, ticked}
 use Rattle.link.specs.Steps.{declaredBy, actOf, actOut, unlessStep, unlessOut, receivedRefusal, tickRefusal}
+use Rattle.link.specs.Facts.{noneNamed}
 use Rattle.link.specs.declared.Record.{Record}
 use Rattle.link.specs.declared.Step.{Step}
 use Rattle.link.specs.declared.Event.{Event}
@@ -237,7 +238,7 @@ Numbering-by-our-number-is-ours =
 -- What two nodes say that have the same link and set up a connection, from SAP 4 to SAP 3 at level 2: both are open. Some links below do so, and are wrong all
 -- the same, as ours would not understand them.
 abbrev pub giving : ℕ → Given
-giving random = record { time = 0; out = replicate 244 0; random = random; idle-time = record { named = false; time = 0 }; net = [] }
+giving random = record { time = 0; out = replicate 244 0; random = random; idle-time = noneNamed 0; net = [] }
 
 abbrev pub closedTwo : Parties
 closedTwo =
