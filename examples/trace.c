@@ -95,7 +95,7 @@ static const char *why_closed(uj_outcome o)
         return "the partner's disconnect says so";
     switch (o.happened.reason) {
     case UJ_REASON_VERSION:
-        return "the first number of the confirm's version is not 3";
+        return "the confirm has another version than 3.0";
     case UJ_REASON_SET_UP:
         return "no confirm came within 5000 ms";
     case UJ_REASON_AUTHENTICATION:
@@ -132,20 +132,13 @@ static void trace_opened(const char *partner, uj_outcome o, uint32_t level)
            responder ? "authentication" : "acknowledgement", level == 4 ? 1 : 2, responder ? "the acknowledgement goes out, and " : "", partner);
 }
 
-/* A request or confirm is taken whose version, X in byte 9 and Y in byte 10, has the first number 3. */
-static void trace_set_up(const char *kind, const uint8_t *telegram, const char *answer, const char *awaited)
-{
-    printf("takes the %s: it passes the check and has version %u.%u; the %s goes out, the %s is awaited", kind,
-           (unsigned)telegram[8], (unsigned)telegram[9], answer, awaited);
-}
-
 /* No event: the set-up goes on with the next telegram; else idle was taken, or the telegram dropped. */
-static void trace_nothing(const char *partner, uj_outcome o, uint32_t phase, const uint8_t *telegram)
+static void trace_nothing(const char *partner, uj_outcome o, uint32_t phase)
 {
     if (o.answer.telegram == UJ_TELEGRAM_CONFIRM)
-        trace_set_up("request", telegram, "confirm", "authentication");
+        printf("takes the request: it passes the check and has version 3.0; the confirm goes out, the authentication is awaited");
     else if (o.answer.telegram == UJ_TELEGRAM_AUTHENTICATION)
-        trace_set_up("confirm", telegram, "authentication", "acknowledgement");
+        printf("takes the confirm: it passes the check and has version 3.0; the authentication goes out, the acknowledgement is awaited");
     else if (phase == UJ_OPEN)
         printf("takes the idle telegram: it passes the check; the watch on %s begins anew", partner);
     else if (phase == UJ_CLOSED)
@@ -154,7 +147,7 @@ static void trace_nothing(const char *partner, uj_outcome o, uint32_t phase, con
         printf("drops it: a confirm of %s is awaited", partner);
 }
 
-static void trace_event(const char *partner, uj_outcome o, uj_record record, const uint8_t *telegram)
+static void trace_event(const char *partner, uj_outcome o, uj_record record)
 {
     switch (o.happened.event) {
     case UJ_EVENT_OPENED:
@@ -168,13 +161,12 @@ static void trace_event(const char *partner, uj_outcome o, uj_record record, con
         trace_closed(partner, o);
         break;
     default:
-        trace_nothing(partner, o, record.phase, telegram);
+        trace_nothing(partner, o, record.phase);
     }
     printf("\n");
 }
 
-void trace_outcome(uint64_t time, const char *name, const char *partner, const char *call, uj_outcome o,
-                   uj_record record, const uint8_t *telegram)
+void trace_outcome(uint64_t time, const char *name, const char *partner, const char *call, uj_outcome o, uj_record record)
 {
     const int received = strcmp(call, "received") == 0;
 
@@ -182,7 +174,7 @@ void trace_outcome(uint64_t time, const char *name, const char *partner, const c
         return;
     printf("%6llu      %s ", (unsigned long long)time, name);
     if (o.answer.number == UJ_DONE)
-        trace_event(partner, o, record, telegram);
+        trace_event(partner, o, record);
     else if (received)
         printf("refuses it, answer %u: %s\n", (unsigned)o.answer.number, refusal_name(o.answer.number));
     else

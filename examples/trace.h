@@ -15,10 +15,9 @@ void trace_telegram(uint64_t time, const char *from, const char *to, route r, ui
 /* What the cable did to it: byte `at`, counted from 1, arrives as another. */
 void trace_damage(uint64_t time, size_t at, unsigned was, unsigned is);
 
-/* What came of a call, by the node of that name. A call of the node's own that does nothing but send is told by the
- * telegram alone. The record is the one after the call; zeros where there is none. `telegram` is the one received. */
-void trace_outcome(uint64_t time, const char *name, const char *partner, const char *call, uj_outcome o,
-                   uj_record record, const uint8_t *telegram);
+/* What came of a call, by the node of that name. A call of the node's own that does nothing but send is told by the telegram alone. The record is the
+ * one after the call; zeros where there is none. */
+void trace_outcome(uint64_t time, const char *name, const char *partner, const char *call, uj_outcome o, uj_record record);
 
 /* The net data handed up. */
 void trace_data(const uint8_t *net, size_t count);

@@ -10,14 +10,12 @@
 #include <stdlib.h>
 #include <string.h>
 
-/* A node's board. Its address is the place where it is plugged in, under which the bus carries what it sends; the
- * firmware's own address is part of its configuration. Only the workshop can make the two differ. The version is what its
- * requests and confirms declare: 3.0.0 by our library, and another Y and Z by another vendor's. */
+/* A node's board. Its address is the place where it is plugged in, under which the bus carries what it sends; the firmware's own address is part of
+ * its configuration. Only the workshop can make the two differ. */
 typedef struct board {
     const char *name, *name_elsewhere;
     uint32_t address;
     uint32_t random;
-    uint8_t version[3];
     int fitted;
     node node;
 } board;
@@ -39,9 +37,6 @@ static sent frames[MOST_FRAMES];
 static size_t frame_count;
 static uint64_t now = 1000;
 static int damage_next;
-
-/* The telegram that a node is given just now. */
-static const uint8_t *arriving;
 
 /* What the layers above got: data, and data whose text names another than the partner under whose name it came up. */
 static unsigned data_count, mistaken_count;
@@ -122,30 +117,6 @@ static uint32_t number_of(const board *from, route r, const uint8_t *telegram)
     return seen[i].number;
 }
 
-/* What a card of another vendor writes: the request or confirm with its own version in bytes 9 to 11, and the check word
- * worked out anew, at level 4, over the implicit bytes of 5.1.3.4 and the telegram's. */
-static void declare(sent *s)
-{
-    const size_t body = s->length - 6;
-    const uint8_t implicit[8] = {
-        (uint8_t)s->length,
-        (uint8_t)s->receiver,
-        (uint8_t)s->from->node.head.own,
-        (uint8_t)s->route.partner_sap,
-        (uint8_t)s->route.local_sap,
-        (uint8_t)(s->number >> 8),
-        (uint8_t)(s->number >> 16),
-        (uint8_t)(s->number >> 24),
-    };
-    uint64_t word;
-
-    must(s->telegram[1] >> 6 == 2, "only cards of level 4 declare another version here");
-    memcpy(s->telegram + 8, s->from->version, sizeof s->from->version);
-    word = uj_word48(implicit, sizeof implicit, s->telegram, body);
-    for (size_t i = 0; i < 6; i++)
-        s->telegram[body + i] = (uint8_t)(word >> (40 - 8 * i));
-}
-
 /* The bus driver copies the telegram before it returns. The sender's address is that of the place on the bus. */
 void board_send(const node *n, route r, const uint8_t *telegram, size_t length)
 {
@@ -161,8 +132,6 @@ void board_send(const node *n, route r, const uint8_t *telegram, size_t length)
     s->route = r;
     memcpy(s->telegram, telegram, length);
     s->length = length;
-    if (((telegram[1] & 0x3F) == 0x00 || (telegram[1] & 0x3F) == 0x02) && memcmp(telegram + 8, b->version, 3) != 0)
-        declare(s);
 }
 
 /* The layer above. The data of this example say whose they are. */
@@ -183,8 +152,7 @@ void board_watched(const node *n, route r, const char *call, uj_outcome o)
     const size_t place = node_place(n, r);
     const uj_record none = {0};
 
-    trace_outcome(now, name_on_bus(board_of(n)), partner_name(r.partner), call, o,
-                  place < n->count ? n->table[place] : none, arriving);
+    trace_outcome(now, name_on_bus(board_of(n)), partner_name(r.partner), call, o, place < n->count ? n->table[place] : none);
 }
 
 /* Damages one bit in the middle of a telegram, as a cable may. */
@@ -209,10 +177,8 @@ static void arrive(void)
     if (damage_next)
         damage(&s);
     damage_next = 0;
-    arriving = s.telegram;
     if (to)
         answer = node_received(&to->node, now, f);
-    arriving = NULL;
     must(answer == UJ_DONE || answer == UJ_ENDED, "a telegram is refused");
 }
 
@@ -248,9 +214,6 @@ static void fit(int which, const char *name, const char *name_elsewhere, uint32_
     b->name_elsewhere = name_elsewhere;
     b->address = own;
     b->random = random;
-    b->version[0] = 3;
-    b->version[1] = 0;
-    b->version[2] = 0;
     b->fitted = 1;
     node_start(&b->node, own);
 }
@@ -390,29 +353,6 @@ static void scene_second_damage(void)
     must(ended(TO_8, MODULE_8), "a connection goes on after the second incorrect telegram");
 }
 
-static void scene_versions(void)
-{
-    trace_heading("12. Module 20's card is replaced by another vendor's, which declares version 3.5.0. Versions with an "
-                  "equal first number are compatible (8.1.2.2.5): the connection opens. We write 3.0.0.");
-    fit(MODULE_20, "module 20", "module 20 at 10", 20, 0x0BADF00D);
-    node_add(&boards[MODULE_20].node, 1, 5, 5, 4);
-    boards[MODULE_20].version[1] = 5;
-    open_from(MODULE_20, 0);
-    pass(10);
-    send_from(MODULE_20, 0, 0x20, "module 20: open");
-    pass(10);
-    trace_heading("13. Its next software declares 4.0.0, and a different first number is not compatible (8.1.2.2.2). The "
-                  "on-board computer opens, and the confirm ends the connection for good (5.2.5.8.2).");
-    must(node_close(&boards[MODULE_20].node, now, 0, UJ_NEW_SETUP, UJ_REASON_APPLICATION, "new software") == UJ_DONE,
-         "close is refused");
-    pass(10);
-    boards[MODULE_20].version[0] = 4;
-    boards[MODULE_20].version[1] = 0;
-    open_from(ON_BOARD, TO_20);
-    pass(10);
-    must(ended(TO_20, MODULE_20), "a connection goes on with another first number");
-}
-
 int main(void)
 {
     printf("The on-board computer, address 1, and the national modules 8, 9, 10 and 20 on one bus.\n");
@@ -427,7 +367,6 @@ int main(void)
     scene_wait();
     scene_exchange();
     scene_second_damage();
-    scene_versions();
     printf("\nData that came up under another's name: %u.\n", mistaken_count);
     return mistaken_count != 0;
 }

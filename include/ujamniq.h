@@ -40,7 +40,7 @@ extern "C" {
 #endif
 
 /* The version of this library. */
-#define UJ_VERSION "0.3.0"
+#define UJ_VERSION "0.2.0"
 
 /* The longest telegram, check word included. Every output buffer needs this much room, however short the telegram. */
 #define UJ_LONGEST 244
@@ -156,7 +156,7 @@ uint32_t uj_word32(const uint8_t *first, size_t first_length, const uint8_t *sec
  * of the telegram received, with the two SAPs exchanged. Send it before the next call uses the buffer.
  *
  * Look at the event of every call: uj_received and uj_tick close a connection by themselves, and write a disconnect with the reason, for the partner:
- *   01h, finally  a confirm of a version whose first number is not 3; the other two are not looked at
+ *   01h, finally  a confirm of another version than 3.0
  *   02h           no confirm within 5,000 ms after our request
  *   03h, finally  an error during authentication: no authentication or acknowledgement within 5,000 ms after what we sent last, another telegram in
  *                 its place, or a wrong number in it
@@ -300,10 +300,6 @@ uj_outcome uj_send(uj_record *table, size_t count, uj_head head, uint64_t time, 
  * `idle_time`, and `net` (limits of uj_open) are for a confirm, should the telegram be a good request; they are measured against their limits in any
  * case. A telegram that fails the check, comes too late or in a phase that is not for it brings no data: the record is closed, or the telegram
  * dropped, as 5.5 says.
- *
- * Of the version that a request or confirm declares (bytes 9 to 11) the first number must be 3, and the others may be
- * any: a request of another is dropped, a confirm of another closes finally with 01h. (Up to version 0.2.0 the second
- * number had to be 0.) The version of the library itself is not meant here: that is UJ_VERSION.
  *
  * The net data of a request or confirm are no event. Where uj_received wrote a confirm or an authentication, uj_net_data finds them in the telegram.
  *

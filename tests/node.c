@@ -365,136 +365,6 @@ static void test_no_idle_time_named(void)
     }
 }
 
-/* A partner that declares another version: what the node wrote last, a request or confirm, with other bytes 9 to 11 and
- * the check word that goes with them. */
-static void declare(node *n, uint8_t x, uint8_t y, uint8_t z)
-{
-    const uj_record *r = &n->table[0];
-    const end e = {{n->head.own, r->partner, r->partner_sap, r->local_sap, r->level}};
-
-    n->out[8] = x;
-    n->out[9] = y;
-    n->out[10] = z;
-    n->length = seal(e, r->sending - 1, n->out, n->length - word_bytes(r->level));
-}
-
-/* The responder takes such a request, and a whole set-up follows; or it drops the request, and its record stays closed. */
-static void check_request_of(pair p, int taken)
-{
-    if (taken) {
-        confirm(&p);
-        authenticate(&p);
-        acknowledge(&p);
-        open_opener(&p);
-        goes_over(&p.responder, &p.opener, 1100, 0x20, 10);
-        return;
-    }
-    const uj_record closed = uj_fresh(OPENER, 3, 3, p.opener.table[0].level);
-    const uj_outcome o = call(&p.responder, delivered(&p.opener, 0, 1010));
-    check_quiet(o);
-    CHECK(o.happened.event == UJ_EVENT_NOTHING && same_record(&p.responder.table[0], &closed));
-}
-
-/* The opener takes such a confirm, and the set-up goes on; or it closes finally with 01h, and the disconnect goes out. */
-static void check_confirm_of(pair p, int taken)
-{
-    if (taken) {
-        authenticate(&p);
-        acknowledge(&p);
-        open_opener(&p);
-        goes_over(&p.opener, &p.responder, 1100, 0x20, 10);
-        return;
-    }
-    order expected = usual_order(DISCONNECT, opener_random + 1);
-    const uj_outcome o = call(&p.opener, delivered(&p.responder, 0, 1020));
-    expected.type = 0;
-    expected.reason = 0x01;
-    check_wrote(&p.opener, 0, o, expected);
-    check_closed(&p.opener, o, 0x01, 1);
-}
-
-/* Both, at this level. The telegrams are left in place for who wants to look at them. */
-static void check_version(uint32_t level, uint8_t x, uint8_t y, uint8_t z, pair *asks, pair *answers)
-{
-    case_is("version", (uint32_t)x << 16 | (uint32_t)y << 8 | z, level);
-    *asks = *answers = new_pair(3, 3, level);
-    request(asks);
-    declare(&asks->opener, x, y, z);
-    check_request_of(*asks, x == 3);
-    request(answers);
-    confirm(answers);
-    declare(&answers->responder, x, y, z);
-    check_confirm_of(*answers, x == 3);
-}
-
-/* 8.1.2.2.5: an equal first number is compatible, whatever the second is. Worked numbers, from section 10. */
-static void test_worked_versions(void)
-{
-    static const struct {
-        uint32_t level;
-        int confirm;
-        uint8_t x, y, z, telegram[18];
-    } worked[] = {
-        {4, 0, 3, 5, 0, {0x67, 0x80, 0x67, 0x45, 0x23, 0x01, 0xF4, 0x01, 0x03, 0x05, 0x00, 0x00,
-                         0xD8, 0xC3, 0xBD, 0xC8, 0x85, 0xF4}},
-        {4, 0, 3, 255, 255, {0x67, 0x80, 0x67, 0x45, 0x23, 0x01, 0xF4, 0x01, 0x03, 0xFF, 0xFF, 0x00,
-                             0x2D, 0x07, 0xFE, 0x80, 0xD8, 0x69}},
-        {2, 0, 3, 5, 0, {0x67, 0x00, 0x67, 0x45, 0x23, 0x01, 0xF4, 0x01, 0x03, 0x05, 0x00, 0x00,
-                         0xFE, 0xDB, 0x35, 0x63}},
-        {4, 1, 3, 5, 0, {0xEF, 0x82, 0xEF, 0xCD, 0xAB, 0x89, 0xF4, 0x01, 0x03, 0x05, 0x00, 0x00,
-                         0x0F, 0x39, 0xF0, 0x45, 0x88, 0xBC}},
-        {2, 1, 3, 5, 0, {0xEF, 0x02, 0xEF, 0xCD, 0xAB, 0x89, 0xF4, 0x01, 0x03, 0x05, 0x00, 0x00,
-                         0x7C, 0xF5, 0x79, 0x8E}},
-        {4, 0, 2, 0, 0, {0x67, 0x80, 0x67, 0x45, 0x23, 0x01, 0xF4, 0x01, 0x02, 0x00, 0x00, 0x00,
-                         0x24, 0xDB, 0xF8, 0xF4, 0x3F, 0xE4}},
-        {4, 1, 4, 0, 0, {0xEF, 0x82, 0xEF, 0xCD, 0xAB, 0x89, 0xF4, 0x01, 0x04, 0x00, 0x00, 0x00,
-                         0x05, 0x7F, 0xF6, 0xBB, 0x66, 0x82}},
-        {4, 0, 0, 0, 0, {0x67, 0x80, 0x67, 0x45, 0x23, 0x01, 0xF4, 0x01, 0x00, 0x00, 0x00, 0x00,
-                         0x76, 0xEE, 0x39, 0xB5, 0xF3, 0xFE}},
-    };
-
-    for (size_t i = 0; i < sizeof worked / sizeof *worked; i++) {
-        pair asks, answers;
-        check_version(worked[i].level, worked[i].x, worked[i].y, worked[i].z, &asks, &answers);
-        const node *from = worked[i].confirm ? &answers.responder : &asks.opener;
-        CHECK(from->length == 12 + word_bytes(worked[i].level));
-        CHECK(memcmp(from->out, worked[i].telegram, from->length) == 0);
-    }
-}
-
-/* Every X, and with X = 3 every Y, each with some Z. */
-static void test_versions(void)
-{
-    static const uint8_t some[] = {0, 1, 255};
-    pair asks, answers;
-
-    for (uint32_t level = 2; level <= 4; level += 2)
-        for (uint32_t number = 0; number < 256; number++)
-            for (size_t i = 0; i < sizeof some; i++) {
-                check_version(level, (uint8_t)number, some[i], 0, &asks, &answers);
-                check_version(level, 3, (uint8_t)number, some[i], &asks, &answers);
-            }
-}
-
-/* Where no version is asked for, none is looked at: a request or confirm on an open connection closes it with 04h. */
-static void test_version_on_open(void)
-{
-    for (uint32_t level = 2; level <= 4; level += 2)
-        for (uint8_t x = 2; x <= 4; x++) {
-            pair p = open_pair(level), other = new_pair(5, 9, level);
-            order expected = usual_order(DISCONNECT, responder_random + 2);
-
-            case_is("version on an open connection", x, level);
-            request(&other);
-            declare(&other.opener, x, 5, 7);
-            const uj_outcome o = call(&p.responder, delivered(&other.opener, 0, 1100));
-            expected.type = 1;
-            expected.reason = 0x04;
-            check_wrote(&p.responder, 0, o, expected);
-            check_closed(&p.responder, o, 0x04, 0);
-        }
-}
-
 /* The watch takes the partner's time: a gap equal to it is allowed, one more closes with 05h. */
 static void test_watch(void)
 {
@@ -886,9 +756,8 @@ int main(void)
 {
     static void (*const tests[])(void) = {
         test_constructors, test_5_3_1_7, test_data, test_bad_telegrams, test_idle_time_named, test_idle,
-        test_no_idle_time_named, test_worked_versions, test_versions, test_version_on_open, test_watch, test_waits,
-        test_close, test_refusals, test_fields, test_fields_at_rest, test_alike, test_table_sizes, test_found_by_route,
-        test_unknown_route, test_crossed_telegrams, test_overlap,
+        test_no_idle_time_named, test_watch, test_waits, test_close, test_refusals, test_fields, test_fields_at_rest,
+        test_alike, test_table_sizes, test_found_by_route, test_unknown_route, test_crossed_telegrams, test_overlap,
     };
     uint32_t state = 1;
 

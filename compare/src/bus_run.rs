@@ -152,7 +152,7 @@ fn wanted() -> Vec<String> {
         "bus: a telegram is damaged",
         "bus: a telegram is doubled",
         "bus: a telegram is lost",
-        "bus: a telegram declares another version",
+        "bus: a telegram is of another version",
         "bus: a telegram overtakes another",
         "bus: a telegram reaches another station",
         "calls with a buffer of 0 to 243 bytes",

@@ -5,7 +5,7 @@ use crate::link_call::Call;
 use crate::link_case::{Case, Demand, Outcome};
 use crate::link_step::{Record, Step, Stepped, CLOSED, FINALLY_CLOSED, OPEN};
 use crate::random::{once_in, one_of, Random};
-use crate::random_calls::{around_limit, close, damaged, declaring_another_version, open, received, send, spoil_record, spoilt_call, RECORD_SPOILS};
+use crate::random_calls::{around_limit, close, damaged, of_other_version, open, received, send, spoil_record, spoilt_call, RECORD_SPOILS};
 use crate::shares::Shares;
 use crate::tally::Tally;
 use crate::telegram::{End, LONGEST};
@@ -209,10 +209,10 @@ impl Conversation {
                 self.flying.pop_front().map(|(to, telegram)| (1 - to, telegram)),
             ),
             5 => (
-                "declares another version",
+                "is of another version",
                 self.flying.pop_front().and_then(|(to, telegram)| {
                     let Node { record, own, .. } = &self.nodes[to];
-                    declaring_another_version(record, *own, telegram, random).map(|telegram| (to, telegram))
+                    of_other_version(record, *own, telegram, random).map(|telegram| (to, telegram))
                 }),
             ),
             _ => (

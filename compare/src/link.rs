@@ -14,8 +14,8 @@ use Operation::*;
 const ACKNOWLEDGEMENT_TIMEOUT: u64 = 5000;
 /// Request e: the idle time that is declared where none is named.
 const UNNAMED_IDLE_TIME: u32 = 1000;
-/// 8.2.1.3: the X that a request and a confirm must have. Y and Z are free (8.1.2.2.5, 8.1.2.2.6; request a).
-const ACCEPTED_X: u8 = 3;
+/// The scope: the X and the Y that a request and a confirm must have.
+const ACCEPTED_VERSION: [u8; 2] = [3, 0];
 
 /// The numbers of the refusals that a connection adds to those of a telegram.
 pub const ENDED: u32 = 8;
@@ -159,7 +159,7 @@ fn idle_cycle_timeout(telegram: &[u8]) -> u32 {
 }
 
 fn version_accepted(telegram: &[u8]) -> bool {
-    byte(telegram, 9) == ACCEPTED_X
+    [byte(telegram, 9), byte(telegram, 10)] == ACCEPTED_VERSION
 }
 
 /// 5.2.3.4 and 5.2.4.4, bytes 3..6.
@@ -348,7 +348,7 @@ impl Link {
     /// The cell, with what the printed one leaves to the telegram.
     fn cell(&self, happening: Happening, telegram: &[u8]) -> Cell {
         match (happening, self.state) {
-            // A request of another X is dropped: in column Idle no row sends a disconnect.
+            // A request of another version is dropped: in column Idle no row sends a disconnect.
             (ConReqRcv, State::Idle) if !version_accepted(telegram) => (F00, NOCHANGE),
             // 5.2.5.8.2: bad version error.
             (ConAckRcv, State::WConAck) if !version_accepted(telegram) => (F08, DEFECT),

@@ -127,20 +127,20 @@ pub fn commands_received() -> Vec<Case> {
     cases
 }
 
-/// Requests to closed records and confirms to those that await one, with every X and some Y, and with X = 3 every Y and some Z: X = 3 is accepted, whatever Y
-/// and Z are. In the other phases the version doesn't matter.
+/// Requests to closed records and confirms to those that await one, with every X and Y, and some Z: only 3 and 0 are accepted. In the other phases the version
+/// doesn't matter.
 pub fn versions() -> Vec<Case> {
-    let any_x = (0..=255).flat_map(|x| [0, 5, 255].map(|y| [x, y, 0]));
-    let any_y = (0..=255).flat_map(|y| [0, 1, 7, 255].map(|z| [3, y, z]));
-    let some = [[0, 3, 0], [0, 3, 3], [2, 2, 0], [4, 4, 0], [255, 255, 255]];
+    let any_x = (0..=255).map(|x| [x, 0, 0]);
+    let any_y = (0..=255).map(|y| [3, y, 0]);
+    let some = [[3, 0, 1], [3, 0, 255], [0, 3, 0], [2, 2, 0], [4, 4, 0], [255, 255, 255]];
     let mut cases = Vec::new();
     for [x, y, z] in any_x.chain(any_y).chain(some) {
         for (record, own) in records() {
             for kind in [Kind::Request, Kind::Confirm] {
                 let draft = draft(&record, own, &telegram(&record, kind)).with(8, x).with(9, y).with(10, z);
                 let row = good(kind).map(|brings| match brings {
-                    Brings::Confirm if x != 3 => Brings::Nothing,
-                    Brings::Authentication if x != 3 => Brings::Closes(1, true),
+                    Brings::Confirm if [x, y] != [3, 0] => Brings::Nothing,
+                    Brings::Authentication if [x, y] != [3, 0] => Brings::Closes(1, true),
                     other => other,
                 });
                 cases.push(case(record, own, received(NOW, draft.telegram()), row));

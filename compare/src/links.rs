@@ -135,7 +135,7 @@ fn systematic(tally: &mut Tally) {
         "received: every command in the shape of idle and of data",
         link_cases::commands_received(),
     );
-    group("received: every X, and every Y with X = 3, of the version", link_cases::versions());
+    group("received: every X and Y of the version", link_cases::versions());
     group("received: every idle time of the partner", link_cases::idle_times_received());
     group("received: authentication numbers, right and wrong", link_cases::authentication_numbers());
     group(

@@ -148,9 +148,8 @@ pub fn damaged(mut telegram: Vec<u8>, random: &mut Random) -> Vec<u8> {
     telegram
 }
 
-/// A request or confirm to this record as a partner would have sent it that declares another version than 3.0.0; nothing for another telegram. One whose X is 3
-/// is accepted.
-pub fn declaring_another_version(record: &Record, own: u32, mut telegram: Vec<u8>, random: &mut Random) -> Option<Vec<u8>> {
+/// A request or confirm to this record as a partner of another version would have sent it; nothing for another telegram.
+pub fn of_other_version(record: &Record, own: u32, mut telegram: Vec<u8>, random: &mut Random) -> Option<Vec<u8>> {
     let level = Level::named(record.level)?;
     if ![0x00, 0x02].contains(&(telegram[1] & 0x3F)) {
         return None;

@@ -4,7 +4,7 @@
 use crate::link_step::{Record, CLOSED, FINALLY_CLOSED};
 use crate::node_call::Frame;
 use crate::random::{once_in, one_of, Random};
-use crate::random_calls::{damaged, declaring_another_version};
+use crate::random_calls::{damaged, of_other_version};
 use crate::shares::Shares;
 use crate::stations::{another, station_at, two_of, Station};
 use std::collections::VecDeque;
@@ -112,7 +112,7 @@ impl Wire {
         match kind {
             0 => ("is lost", None),
             4 => ("comes back to its sender", returned(stations, flying)),
-            5 => ("declares another version", other_version(stations, flying, random)),
+            5 => ("is of another version", other_version(stations, flying, random)),
             6 => ("reaches another station", Some(misled(stations, flying, random))),
             7 => ("comes from another address", disguised(stations, flying, random)),
             8..=12 => crossed(stations, flying, random),
@@ -125,11 +125,11 @@ fn returned(stations: &[Station], flying: Flying) -> Option<Flying> {
     station_at(stations, flying.frame.sender).map(|to| Flying { to, ..flying })
 }
 
-/// A request or confirm declares another version; another telegram is lost.
+/// A request or confirm is of another version; another telegram is lost.
 fn other_version(stations: &[Station], flying: Flying, random: &mut Random) -> Option<Flying> {
     let Station { head, table, .. } = &stations[flying.to];
     let record = table.iter().find(|record| Frame::to(record) == flying.frame)?;
-    let telegram = declaring_another_version(record, head.own, flying.telegram, random)?;
+    let telegram = of_other_version(record, head.own, flying.telegram, random)?;
     Some(Flying { telegram, ..flying })
 }
 

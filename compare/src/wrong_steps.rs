@@ -356,22 +356,10 @@ fn reseal(step: &mut Step, number: u32, change: fn(&mut [u8])) {
 fn versions() -> Vec<Wrong> {
     let versions = link_cases::versions;
     vec![
-        instead(
-            "a Y other than 0 not accepted",
-            versions,
-            |step, stepped| stepped.answer.telegram == WROTE_CONFIRM && step.call.telegram()[9] != 0,
-            refusing(0),
-        ),
-        instead(
-            "a confirm with a Y other than 0 not accepted",
-            versions,
-            |step, stepped| stepped.answer.telegram == WROTE_AUTHENTICATION && step.call.telegram()[9] != 0,
-            closing(0, 0x01),
-        ),
-        reads("a later version accepted", versions, |step| {
-            if (is_good(step, 0x00) || is_good(step, 0x02)) && step.call.telegram()[8] > 3 {
+        reads("a version with any Y accepted", versions, |step| {
+            if (is_good(step, 0x00) || is_good(step, 0x02)) && step.call.telegram()[8] == 3 {
                 let number = field(step.call.telegram(), 3, 6);
-                reseal(step, number, |body| body[8] = 3);
+                reseal(step, number, |body| body[9] = 0);
             }
         }),
         reads("a confirm of any version accepted", versions, |step| {

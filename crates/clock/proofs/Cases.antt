@@ -50,13 +50,13 @@ unfolding pick
 failing_join [] us z = refl
 failing_join (t ∷ ts) us z = join_by t.0 t.1 ts us z.0 (failing_join ts us z.1)
 
-numbered_by : (b : Bool) (ts : List (Bool × ℕ)) → Numbered ts → Numbered (pick b ts [])
+numbered_by_holds : (b : Bool) (ts : List (Bool × ℕ)) → Numbered ts → Numbered (pick b ts [])
 unfolding pick
-numbered_by true ts z = z
-numbered_by false ts z = tt
+numbered_by_holds true ts z = z
+numbered_by_holds false ts z = tt
 
 pub pair_numbered : (b : Bool) (p q : Pair) (f : ℕ) → Numbered (pick b (pair_tests p q f) [])
-pair_numbered b p q f = numbered_by b (pair_tests p q f) (λ e. omega arith, (λ e. omega arith, (λ e. omega arith, tt)))
+pair_numbered b p q f = numbered_by_holds b (pair_tests p q f) (λ e. omega arith, (λ e. omega arith, (λ e. omega arith, tt)))
 
 pub joined_told : (ts us : List (Bool × ℕ)) (z : ℕ) → Numbered ts → z ≡ pick (eqb (failing ts) 0) (failing us) (failing ts) → z ≡ failing (ts ++ us)
 joined_told ts us z n e = e ∙ sym (failing_join ts us n)

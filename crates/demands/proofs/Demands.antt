@@ -8,7 +8,6 @@ use Rattle.demands.proofs.OneEnd.{demand_2_one_end}
 use Rattle.demands.proofs.EveryStep.{demand_2_over_every_step}
 use Rattle.demands.proofs.SetUp.{demand_2_set_up, set_up_is_done, demand_2_from_the_request}
 use Rattle.demands.proofs.IdleTimes.{demand_2_idle_times}
-use Rattle.demands.proofs.Versions.{demand_2_versions}
 use Rattle.demands.proofs.Demand3.{demand_3, cards_exchanged_at_a_node}
 use Rattle.demands.proofs.Law.{the_law}
 
@@ -22,7 +21,6 @@ demand_2 =
       set_up_is_done = set_up_is_done;
       from_the_request = demand_2_from_the_request;
       idle_times = demand_2_idle_times;
-      versions = demand_2_versions;
     }
 
 pub demands : Demands

@@ -16,5 +16,4 @@ pub mod Law
 pub mod SetUp
 pub mod Steps
 pub mod Unique
-pub mod Versions
 pub mod Worked

@@ -31,7 +31,7 @@ use Rattle.link.specs.declared.Event.TheVariants as event
 use Rattle.link.specs.declared.Verdict.{Verdict}
 use Rattle.link.specs.declared.Verdict.TheVariants.{Nothing, Confirm, Authenticate, Acknowledge, Open as Opens, Data, Idle, SendIdle, Disconnected, Close as Closes}
 use Rattle.link.proofs.Cases.{phases, live_phase}
-use Rattle.link.proofs.Facts.{by_the_table, by_its_row, closed_in_time, final_stays}
+use Rattle.link.proofs.Facts.{by_the_table, final_stays}
 use Rattle.link.proofs.Answers.{answers}
 use Rattle.node.specs.declared.Head.{Head}
 use Rattle.node.specs.declared.Outcome.{Outcome}
@@ -74,7 +74,7 @@ silence_closes_here c h t i time d looks p some over done =
     looking_closes c h t i time d 0x05 false looks
     (record { on_tick_holds = (by_the_table.silent r 0 time [] p out).1; on_receipt = λ telegram. (by_the_table.silent r h.own time telegram p out).0 }) done
 
-pub wait_ran_out : (r : Record) (time q : ℕ) → r.phase ≡ q → 2 ≤ q → q ≤ 4 → r.sent_at + 5000 < time → run_out r time ≡ true
+wait_ran_out : (r : Record) (time q : ℕ) → r.phase ≡ q → 2 ≤ q → q ≤ 4 → r.sent_at + 5000 < time → run_out r time ≡ true
 unfolding run_out wait_over pick
 wait_ran_out r time q p low high over = rw (p, ne_eqb q 5 (λ e. omega arith), le-leb 2 q low, le-leb q 4 high) (lt-ltb 5000 (gap r.sent_at time) (omega arith))
 
@@ -102,8 +102,13 @@ late_answer_closes =
     }
 
 -- timers that have not run out
-pub awaiting_in_time : (r : Record) (time p : ℕ) → 2 ≤ p → p ≤ 4 → Awaiting r time p → run_out r time ≡ false
+awaiting_in_time : (r : Record) (time p : ℕ) → 2 ≤ p → p ≤ 4 → Awaiting r time p → run_out r time ≡ false
 awaiting_in_time r time p low high a = let q = a.phase_is in waits_in_time r time (omega arith) (omega arith) a.in_time
+
+-- on a closed record nothing runs out
+closed_in_time : (r : Record) (time : ℕ) → r.phase ≡ 1 → run_out r time ≡ false
+unfolding run_out pick
+closed_in_time r time p = rw p refl
 
 listens_in_time : (r : Record) (time : ℕ) → Listens r time → run_out r time ≡ false
 listens_in_time r time (set_up low high early) = waits_in_time r time low high early
@@ -127,7 +132,9 @@ ticks_in_time =
 -- one that passes the check: its kind's row
 row_in : (x : Receipt) (k : Kind) (p : ℕ) → (record_for x).phase ≡ p → run_out (record_for x) x.time ≡ false → Passing x → kind_of x ≡ k
     → judged (record_for x) x.head.own x.time x.telegram ≡ narrowed (ruled (row_of k) p) (record_for x) x.telegram
-row_in x k p e w c f = by_its_row (record_for x) x.head.own x.time x.telegram k p w c f e
+row_in x k p e w c f =
+    by_the_table.passing (record_for x) x.head.own x.time x.telegram w c ∙ ap (λ (z : Kind). narrowed (ruled (row_of z) (record_for x).phase) (record_for x) x.telegram) f
+    ∙ ap (λ (z : ℕ). narrowed (ruled (row_of k) z) (record_for x) x.telegram) e
 
 -- one that doesn't
 pub failing_row : (r : Record) (own time : ℕ) (t : List ℕ) → run_out r time ≡ false → (check_of (end_of r own) (expected_now r) t ≡ Passes → ⊥) → judged r own time t ≡ ruled Incorrect-rcv-1st r.phase

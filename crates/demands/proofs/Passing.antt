@@ -23,7 +23,6 @@ use Rattle.telegram.specs.Ends.{is_level, in_range, receiving, mirrored}
 use Rattle.telegram.specs.Values.{good_idle, good_type, good_dual_bus, good_fields}
 use Rattle.telegram.specs.Telegrams.{check_word, body, sealed, telegram}
 use Rattle.telegram.specs.Check.{command_of, same_level, number_used, used_for, covered, word_agrees, check_of}
-use Rattle.telegram.specs.Facts.{Taken}
 use Rattle.telegram.specs.declared.End.{End}
 use Rattle.telegram.specs.declared.Level.TheVariants.{Sl, Unassigned}
 use Rattle.telegram.specs.declared.Kind.{Kind}
@@ -262,7 +261,7 @@ swapped a b c d x h =
     let last = both_true _ _ third.1 in
     both_are _ _ second.0 (both_are _ _ first.0 (both_are _ _ last.0 (both_are _ _ third.0 last.1)))
 
-pub mirrored_in_range : (e : End) → in_range e ≡ true → in_range (mirrored e) ≡ true
+mirrored_in_range : (e : End) → in_range e ≡ true → in_range (mirrored e) ≡ true
 unfolding in_range
 mirrored_in_range e h = swapped (leb e.own 126) (leb e.partner 126) (leb e.partner_sap 62) (leb e.local_sap 62) (is_level e.level) h
 
@@ -282,32 +281,17 @@ unfolding is_data pick
 data_is low (inl p) = rw p
 data_is low (inr p) = rw (ne_eqb low 9 (λ q. omega arith), le-leb 32 low p.0, le-leb low 63 p.1)
 
--- a connect request or confirm, of whatever version
-pub connect_taken : (e : End) (m low random time x y z bus : ℕ) (net : List ℕ) → (low ≡ 0x00) ⊎ (low ≡ 0x02) → in_range e ≡ true → ConnectFields random time x y z bus
-    → NetData e 12 net → Taken e m (telegram e random low (random ∷ time ∷ x ∷ y ∷ z ∷ bus ∷ []) net) (kind_of low) (random ∷ time ∷ x ∷ y ∷ z ∷ bus ∷ []) net
-unfolding kind_of pick
-connect_taken e m low random time x y z bus net command ranged c n = by command
-  where
-    fields : List ℕ
-    fields = random ∷ time ∷ x ∷ y ∷ z ∷ bus ∷ []
-
-    by : (low ≡ 0x00) ⊎ (low ≡ 0x02) → Taken e m (telegram e random low fields net) (kind_of low) fields net
-    by (inl p) =
-        rw p
-        (taken e random 0x00 fields net ranged (lit< tt) refl (connect_fits random time x y z bus c) n.bytes (omega (arith, n.room)) (connect_good random time x y z bus c) m refl)
-    by (inr p) =
-        rw p
-        (taken e random 0x02 fields net ranged (lit< tt) refl (connect_fits random time x y z bus c) n.bytes (omega (arith, n.room)) (connect_good random time x y z bus c) m refl)
-
 module _ (e : End) (m : ℕ) (ranged : in_range e ≡ true) where
   passes : (t : List ℕ) → TelegramOf (mirrored e) m t → check_of e m t ≡ Passes
   unfolding kind_of pick good_type
   passes t (request random time x y z bus net c n is) =
       subst (λ (u : List ℕ). check_of e m u ≡ Passes) (sym is)
-      (connect_taken (mirrored e) m 0x00 random time x y z bus net (inl refl) (mirrored_in_range e ranged) c n).passes
+      (taken (mirrored e) random 0x00 (random ∷ time ∷ x ∷ y ∷ z ∷ bus ∷ []) net (mirrored_in_range e ranged) (lit< tt) refl
+      (connect_fits random time x y z bus c) n.bytes (omega (arith, n.room)) (connect_good random time x y z bus c) m refl).passes
   passes t (confirm random time x y z bus net c n is) =
       subst (λ (u : List ℕ). check_of e m u ≡ Passes) (sym is)
-      (connect_taken (mirrored e) m 0x02 random time x y z bus net (inr refl) (mirrored_in_range e ranged) c n).passes
+      (taken (mirrored e) random 0x02 (random ∷ time ∷ x ∷ y ∷ z ∷ bus ∷ []) net (mirrored_in_range e ranged) (lit< tt) refl
+      (connect_fits random time x y z bus c) n.bytes (omega (arith, n.room)) (connect_good random time x y z bus c) m refl).passes
   passes t (authentication number small is) =
       subst (λ (u : List ℕ). check_of e m u ≡ Passes) (sym is)
       (taken (mirrored e) m 0x03 (number ∷ []) [] (mirrored_in_range e ranged) (lit< tt) refl (small, tt) tt (omega arith) refl m refl).passes

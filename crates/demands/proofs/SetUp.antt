@@ -9,11 +9,11 @@ use native.Mathlib.Omega.{arith}
 use lib.ListN.{length, get_or}
 use lib.Dec.{eqb, lit≤}
 use borrow.Author.Tests.{eq-eqb, eqb-true, eqb-false}
-use Rattle.ground.specs.Choice.{pick}
+use Rattle.ground.specs.Choice.{pick, all}
 use Rattle.telegram.specs.Ends.{mirrored}
 use Rattle.telegram.specs.Layout.{values}
 use Rattle.telegram.specs.Fields.{random_of, authentication_of}
-use Rattle.telegram.specs.Telegrams.{version_and_bus, authentication_number, request, confirm}
+use Rattle.telegram.specs.Telegrams.{version_and_bus, authentication_number}
 use Rattle.telegram.specs.Writers.Outcome.{wrote}
 use Rattle.telegram.specs.Writers.{answer_of, unless, refusal, connect_allowed, writes_request, writes_confirm, writes_authentication, writes_acknowledgement}
 use Rattle.telegram.specs.Facts.{Taken}
@@ -30,7 +30,7 @@ use Rattle.link.specs.declared.Event.{Event}
 use Rattle.link.specs.declared.Event.TheVariants as event
 use Rattle.link.specs.declared.Verdict.{Verdict}
 use Rattle.link.specs.declared.Verdict.TheVariants.{Confirm, Authenticate, Acknowledge, Open as Opens}
-use Rattle.link.proofs.Facts.{by_its_row}
+use Rattle.link.proofs.Facts.{by_the_table}
 use Rattle.node.specs.declared.Head.{Head}
 use Rattle.node.specs.Accepted.{record_at, accepted}
 use Rattle.node.specs.Heads.{at}
@@ -38,9 +38,8 @@ use Rattle.node.specs.Calls.{Call, Left, refused_outcome, called}
 use Rattle.node.specs.Calls.Call.{Open, Received}
 use Rattle.node.proofs.Facts.{refused_changes_nothing, done_sets_the_time, others_unchanged, stays_accepted}
 use Rattle.demands.specs.Pairs.{Mirror, telegram_of, Done, Made, made, head_after, table_after, AllNothingTo}
-use Rattle.demands.specs.Effects.{Does, asking, Receipt, takes, place_for}
-use Rattle.demands.specs.SetUp.{Given, Parties, here, there, arriving, head_then, table_then, asks, request_arrives, confirms, confirm_arrives, authenticates, acknowledges, opens, Undisturbed, set_up, Fits, Until, Demand2SetUp, SetUpIsDone, Demand2FromTheRequest}
-use Rattle.demands.specs.Versions.{partner_of}
+use Rattle.demands.specs.Effects.{Does, asking, Receipt, takes}
+use Rattle.demands.specs.SetUp.{Given, Parties, here, there, arriving, head_then, table_then, asks, confirms, authenticates, acknowledges, opens, Undisturbed, set_up, Fits, Until, Demand2SetUp, SetUpIsDone, Demand2FromTheRequest}
 use Rattle.demands.proofs.Carried.{carried, done_by_holds}
 use Rattle.demands.proofs.Effects.{told, effect_of, receipt_at, open-does, call_wrote, receipt_wrote}
 use Rattle.demands.proofs.Demand2.{own_kept, mirror_place, received_done, watching, waits_in_time}
@@ -107,13 +106,6 @@ module _ (l : Left) (a : ℕ) (r : Record) (k : Head) (u : List Record) (g : Giv
   mirrored-there : Mirror a r k.own (record_at u j)
   mirrored-there = rw (y.own_is, y.record_is) m
 
-  found : Done (takes called (arriving l a r k u g)) → place_for (arriving l a r k u g) ≡ j
-  found done =
-      mirror_place a r k u j (carried (Received _ g.random g.idle_time_holds (telegram_of l) g.net) k u g.time g.out done).good mirrored-there y.there_is
-
-  sender-is : Done (takes called (arriving l a r k u g)) → partner_of (arriving l a r k u g) ≡ end_of r a
-  sender-is done = ap (λ (i : ℕ). mirrored (end_of (record_at u i) k.own)) (found done) ∙ ap mirrored mirrored-there
-
   is-done : {vs net : List ℕ} {n : ℕ} {v : Kind} → accepted k u ≡ true → Taken (end_of r a) n (telegram_of l) v vs net → (q.phase ≡ 6 → ⊥) → Fits k.latest r.level g
       → Done (takes called (arriving l a r k u g))
   unfolding end_of
@@ -126,13 +118,14 @@ module _ (l : Left) (a : ℕ) (r : Record) (k : Head) (u : List Record) (g : Giv
   taking v f done =
       let x : Receipt = arriving l a r k u g in
       let c : Call = Received x.route g.random g.idle_time_holds (telegram_of l) g.net in
+      let found = mirror_place a r k u j (carried c k u g.time g.out done).good mirrored-there y.there_is in
       let f' : judged (record_at u j) k.own g.time (telegram_of l) ≡ v = rw (y.own_is, y.record_is) f in
       let d : Does (takes called x) g.out j (effect_of v q b g.time g.random (declared_by g.idle_time_holds) (telegram_of l) g.net) =
-      rw (← y.own_is, ← y.record_is) (receipt_at x j v (found done) f' done) in
+      rw (← y.own_is, ← y.record_is) (receipt_at x j v found f' done) in
       record {
         does = d;
         holds = left_with c k u g.time g.out j b _ y.own_is y.there_is d.leaves done;
-        written = λ n z q' kind e is. receipt_wrote x j v n z q' kind e (found done) f' (rw (y.own_is, y.record_is) is) done;
+        written = λ n z q' kind e is. receipt_wrote x j v n z q' kind e found f' (rw (y.own_is, y.record_is) is) done;
       }
 
 -- and later, when the record has become r
@@ -146,12 +139,13 @@ later x j b q v r ms t e z = meanwhile (takes called x).outcome.head (takes call
 -- by the table, in time
 judged_by : (a b time : ℕ) (r q : Record) (x : List ℕ) (v : Kind) (vs net : List ℕ) (n : ℕ) → Mirror a r b q → q.phase ≡ n → run_out q time ≡ false
     → Taken (end_of r a) (expected_now q) x v vs net → judged q b time x ≡ narrowed (ruled (row_of v) n) q x
-judged_by a b time r q x v vs net n m p w y = by_its_row q b time x v n w (rw m y.passes) y.kind p
+judged_by a b time r q x v vs net n m p w y =
+    by_the_table.passing q b time x w (rw m y.passes) ∙ ap (λ (z : Kind). narrowed (ruled (row_of z) q.phase) q x) y.kind ∙ ap (λ (z : ℕ). narrowed (ruled (row_of v) z) q x) p
 
 -- our version is a good one
-pub version_good : (t : List ℕ) (random time : ℕ) → values kind.Request t ≡ random ∷ time ∷ version_and_bus → good_version t ≡ true
+version_good : (t : List ℕ) (random time : ℕ) → values kind.Request t ≡ random ∷ time ∷ version_and_bus → good_version t ≡ true
 unfolding good_version pick
-version_good t random time e = ap (λ (vs : List ℕ). eqb (get_or vs 2 0) 3) e
+version_good t random time e = ap (λ (vs : List ℕ). all (eqb (get_or vs 2 0) 3 ∷ eqb (get_or vs 3 0) 0 ∷ [])) e
 
 -- one before and two before, modulo 2^32
 back_one : (n : ℕ) → n < 2 ^ 32 → back 1 (next n) ≡ n
@@ -221,13 +215,10 @@ module _ (p : Parties) (s : Undisturbed called p) where
         (left_with c₁ p.head p.table p.first.time p.first.out p.i (a p) (r₁ p) refl
         (carried c₁ p.head p.table p.first.time p.first.out asked).there first_does.leaves asked) s.while_asking
 
-    pub request-is : telegram_of (asks called p) ≡ request (end_of (here p) (a p)) (R p) (T p) p.first.net
-    request-is = told (asks called p) p.first.out p.i _ first_does
-
-    pub request-there : (expected : ℕ) → Taken (end_of (here p) (a p)) expected (telegram_of (asks called p)) kind.Request (R p ∷ T p ∷ version_and_bus) p.first.net
+    request-there : (expected : ℕ) → Taken (end_of (here p) (a p)) expected (telegram_of (asks called p)) kind.Request (R p ∷ T p ∷ version_and_bus) p.first.net
     unfolding open_of writes_request
     request-there expected =
-        rw request-is
+        rw (told (asks called p) p.first.out p.i _ first_does)
         (request_taken (end_of (here p) (a p)) (R p) (T p) expected p.first.net p.first.out _ s.random_here s.net_here
         (call_wrote c₁ p.head p.table p.first.time p.first.out (open_refusal (here p) (a p) p.first.idle_time_holds p.first.net p.first.out)
         (refusal (end_of (here p) (a p)) (length p.first.out) (connect_allowed (T p) (length p.first.net) (end_of (here p) (a p)).level)) _ (r₁ p) 1 event.Nothing refl asked))
@@ -242,24 +233,21 @@ module _ (p : Parties) (s : Undisturbed called p) where
     -- The confirm
 
     module _ (confirmed : Done (confirms called p)) where
-      pub request-from : partner_of (request_arrives called p) ≡ end_of (here p) (a p)
-      request-from = sender-is (asks called p) (a p) (here p) p.head' p.table' p.second p.j (b p) (there p) responder s.mirror confirmed
+      abbrev x₂ : Receipt
+      x₂ = arriving (asks called p) (a p) (here p) p.head' p.table' p.second
 
-      second-taken : Taking (request_arrives called p) p.j (b p) (there p) Confirm
+      second-taken : Taking x₂ p.j (b p) (there p) Confirm
       second-taken = taking (asks called p) (a p) (here p) p.head' p.table' p.second p.j (b p) (there p) responder s.mirror Confirm confirms-it confirmed
 
       waits-for-authentication : Holds (head_then called (confirms called p) p.while_confirming) (table_then called (confirms called p) p.while_confirming) p.j (b p) (q₁ p)
       waits-for-authentication =
-          later (request_arrives called p) p.j (b p) (there p) Confirm (q₁ p) p.while_confirming second-taken
+          later x₂ p.j (b p) (there p) Confirm (q₁ p) p.while_confirming second-taken
           (ap (λ (vs : List ℕ). become (there p) 3 (next (S p)) (next (get_or vs 0 0)) (U p) (get_or vs 1 0) p.second.time p.second.time) (request-there 0).fields) s.while_confirming
 
-      pub confirm-is : telegram_of (confirms called p) ≡ confirm (end_of (there p) (b p)) (S p) (U p) p.second.net
-      confirm-is = told (confirms called p) p.second.out p.j _ second-taken.does
-
-      pub confirm-there : (expected : ℕ) → Taken (end_of (there p) (b p)) expected (telegram_of (confirms called p)) kind.Confirm (S p ∷ U p ∷ version_and_bus) p.second.net
+      confirm-there : (expected : ℕ) → Taken (end_of (there p) (b p)) expected (telegram_of (confirms called p)) kind.Confirm (S p ∷ U p ∷ version_and_bus) p.second.net
       unfolding writes_confirm
       confirm-there expected =
-          rw confirm-is
+          rw (told (confirms called p) p.second.out p.j _ second-taken.does)
           (confirm_taken (end_of (there p) (b p)) (S p) (U p) expected p.second.net p.second.out _ s.random_there s.net_there
           (second-taken.written (refusal (end_of (there p) (b p)) (length p.second.out) (connect_allowed (U p) (length p.second.net) (end_of (there p) (b p)).level)) _ _ 2 event.Nothing refl))
 
@@ -273,18 +261,17 @@ module _ (p : Parties) (s : Undisturbed called p) where
       -- The authentication
 
       module _ (authenticated : Done (authenticates called p)) where
-        pub confirm-from : partner_of (confirm_arrives called p) ≡ end_of (there p) (b p)
-        unfolding become end_of
-        confirm-from = sender-is (confirms called p) (b p) (there p) _ _ p.third p.i (a p) (r₁ p) waits-for-confirm back-to-here authenticated
+        abbrev x₃ : Receipt
+        x₃ = arriving (confirms called p) (b p) (there p) (head_then called (asks called p) p.while_asking) (table_then called (asks called p) p.while_asking) p.third
 
-        third-taken : Taking (confirm_arrives called p) p.i (a p) (r₁ p) Authenticate
+        third-taken : Taking x₃ p.i (a p) (r₁ p) Authenticate
         unfolding become end_of
-        third-taken = taking (confirms called p) (b p) (there p) _ _ p.third p.i (a p) (r₁ p) waits-for-confirm back-to-here Authenticate authenticates-it authenticated
+        third-taken = taking (confirms called p) (b p) (there p) x₃.head x₃.table p.third p.i (a p) (r₁ p) waits-for-confirm back-to-here Authenticate authenticates-it authenticated
 
         waits-for-acknowledgement : Holds (head_then called (authenticates called p) p.while_authenticating) (table_then called (authenticates called p) p.while_authenticating) p.i (a p) (r₂ p)
         unfolding become
         waits-for-acknowledgement =
-            later (confirm_arrives called p) p.i (a p) (r₁ p) Authenticate (r₂ p) p.while_authenticating third-taken
+            later x₃ p.i (a p) (r₁ p) Authenticate (r₂ p) p.while_authenticating third-taken
             (ap (λ (vs : List ℕ). become (here p) 4 (next (next (R p))) (next (get_or vs 0 0)) (T p) (get_or vs 1 0) p.third.time p.third.time) (confirm-there 0).fields) s.while_authenticating
 
         authentication-there : Taken (end_of (here p) (a p)) (next (R p)) (telegram_of (authenticates called p)) kind.Authentication (authentication_number (here p).level (S p) ∷ []) []

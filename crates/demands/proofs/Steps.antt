@@ -23,7 +23,7 @@ use Rattle.link.specs.declared.Record.{Record}
 use Rattle.link.specs.declared.IdleTime.{IdleTime}
 use Rattle.link.specs.declared.Step.{Step}
 use Rattle.link.specs.declared.Event.{Event}
-use Rattle.link.proofs.Facts.{by_its_row}
+use Rattle.link.proofs.Facts.{by_the_table}
 use Rattle.link.proofs.Answers.{answers}
 
 -- the front of two lists put together
@@ -59,4 +59,5 @@ taken_in q b at random i u net e z =
 pub judged_open : (q : Record) (b at : ℕ) (u : List ℕ) (k : Kind) → q.phase ≡ 5 → watch_over q at ≡ false → check_of (end_of q b) q.expected u ≡ Passes
     → kind_of_command (command_of u) ≡ k → judged q b at u ≡ narrowed (ruled (row_of k) 5) q u
 unfolding run_out expected_now watch_over end_of pick
-judged_open q b at u k p w c e = by_its_row q b at u k 5 (rw p w) (rw p c) e p
+judged_open q b at u k p w c e =
+    by_the_table.passing q b at u (rw p w) (rw p c) ∙ ap (λ (x : Kind). narrowed (ruled (row_of x) q.phase) q u) e ∙ ap (λ (x : ℕ). narrowed (ruled (row_of k) x) q u) p

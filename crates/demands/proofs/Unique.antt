@@ -62,6 +62,7 @@ telegram =
       random_number = λ telegram. unique;
       idle_time = λ telegram. unique;
       version_x = λ telegram. unique;
+      version_y = λ telegram. unique;
       authentication_number = λ telegram. unique;
       disconnect_type = λ telegram. unique;
       disconnect_reason = λ telegram. unique;

@@ -9,12 +9,11 @@ use Rattle.demands.specs.OneEnd.{Demand2OneEnd}
 use Rattle.demands.specs.EveryStep.{Demand2OverEveryStep}
 use Rattle.demands.specs.SetUp.{Demand2SetUp, SetUpIsDone, Demand2FromTheRequest}
 use Rattle.demands.specs.IdleTimes.{Demand2IdleTimes}
-use Rattle.demands.specs.Versions.{Demand2Versions}
 use Rattle.demands.specs.Demand3.{Demand3, CardsExchangedAtANode}
 use Rattle.demands.specs.Law.{TheLaw}
 
 -- What one telegram does between two ends; what one end does by itself; every telegram, one after the other; the set-up, and that nothing refuses it; both, one
--- behind the other; and, in numbers, the idle times declared and the versions accepted.
+-- behind the other; and the idle times declared, in numbers.
 pub record Demand2 (link : Link) : Type 0 where
   pub one_step : Demand2OneStep link
   pub one_end : Demand2OneEnd link
@@ -23,7 +22,6 @@ pub record Demand2 (link : Link) : Type 0 where
   pub set_up_is_done : SetUpIsDone link
   pub from_the_request : Demand2FromTheRequest link
   pub idle_times : Demand2IdleTimes link
-  pub versions : Demand2Versions link
 
 -- Demand 1, of the calls and of the entries below them; demand 2; demand 3, of the check and of what a node does with exchanged cards; and the law behind it.
 pub record Demands : Type 0 where

@@ -13,5 +13,4 @@ pub mod Passing
 pub mod Law
 pub mod SetUp
 pub mod Unique
-pub mod Versions
 pub mod Worked

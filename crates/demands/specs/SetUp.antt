@@ -75,20 +75,13 @@ table_then link l ms = table_after link l.outcome.head l.table ms
 abbrev pub asks : Link → Parties → Left
 asks link p = link (Open p.i p.first.random p.first.idle_time_holds p.first.net) p.head p.table p.first.time p.first.out
 
--- The request as it reaches the responder.
-abbrev pub request_arrives : Link → Parties → Receipt
-request_arrives link p = arriving (asks link p) p.head.own (here p) p.head' p.table' p.second
-
 abbrev pub confirms : Link → Parties → Left
-confirms link p = takes link (request_arrives link p)
-
--- The confirm as it reaches the opener.
-abbrev pub confirm_arrives : Link → Parties → Receipt
-confirm_arrives link p =
-    arriving (confirms link p) p.head'.own (there p) (head_then link (asks link p) p.while_asking) (table_then link (asks link p) p.while_asking) p.third
+confirms link p = takes link (arriving (asks link p) p.head.own (here p) p.head' p.table' p.second)
 
 abbrev pub authenticates : Link → Parties → Left
-authenticates link p = takes link (confirm_arrives link p)
+authenticates link p =
+    takes link
+    (arriving (confirms link p) p.head'.own (there p) (head_then link (asks link p) p.while_asking) (table_then link (asks link p) p.while_asking) p.third)
 
 abbrev pub acknowledges : Link → Parties → Left
 acknowledges link p =

@@ -20,7 +20,7 @@ use Rattle.telegram.specs.Values.{good_idle, good_type, listed_reason, good_dual
 use Rattle.telegram.specs.Writers.{answer_of, left_by, connect_allowed, disconnect_allowed, data_allowed, writes_request, writes_confirm, writes_authentication, writes_acknowledgement, writes_disconnect, writes_idle, writes_data}
 use Rattle.telegram.specs.Check.{command_of, check_of, answer_number}
 use Rattle.telegram.specs.NetData.{net_part, net_data}
-use Rattle.telegram.specs.Fields.{random_of, idle_time_of, version_x_of, authentication_of, type_of, reason_of, low_of}
+use Rattle.telegram.specs.Fields.{random_of, idle_time_of, version_x_of, version_y_of, authentication_of, type_of, reason_of, low_of}
 use Rattle.telegram.specs.declared.End.{End}
 use Rattle.telegram.specs.declared.Level.{Level}
 use Rattle.telegram.specs.declared.Kind.{Kind}
@@ -133,6 +133,7 @@ pub record Telegram : Type 0 where
   pub random_number : (telegram : List ℕ) → Unique (λ (n : ℕ). n ≡ random_of telegram)
   pub idle_time : (telegram : List ℕ) → Unique (λ (n : ℕ). n ≡ idle_time_of telegram)
   pub version_x : (telegram : List ℕ) → Unique (λ (n : ℕ). n ≡ version_x_of telegram)
+  pub version_y : (telegram : List ℕ) → Unique (λ (n : ℕ). n ≡ version_y_of telegram)
   pub authentication_number : (telegram : List ℕ) → Unique (λ (n : ℕ). n ≡ authentication_of telegram)
   pub disconnect_type : (telegram : List ℕ) → Unique (λ (n : ℕ). n ≡ type_of telegram)
   pub disconnect_reason : (telegram : List ℕ) → Unique (λ (n : ℕ). n ≡ reason_of telegram)

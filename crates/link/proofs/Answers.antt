@@ -68,7 +68,7 @@ unless-number n r s h = split (eqb n 0) refl
     split false e = refl
 
 -- a verdict that closes has a reason that may be written
-abbrev pub writable : Verdict → Bool
+abbrev writable : Verdict → Bool
 writable (Close reason last) = listed_reason reason
 writable Nothing = true
 writable Confirm = true
@@ -89,7 +89,7 @@ closing-allowed : (last : Bool) (reason l : ℕ) → listed_reason reason ≡ tr
 unfolding disconnect_allowed
 closing-allowed last reason l h = both_are (good_type (pick last 0 1)) _ (type-good last) (both_are (listed_reason reason) _ h refl)
 
-pub act-number : (v : Verdict) (r : Record) (own time random declared : ℕ) (t net d : List ℕ) → record_in_range r own ≡ true → leb longest (length d) ≡ true
+act-number : (v : Verdict) (r : Record) (own time random declared : ℕ) (t net d : List ℕ) → record_in_range r own ≡ true → leb longest (length d) ≡ true
     → connect_allowed declared (length net) r.level ≡ true → writable v ≡ true → (act_of v r own time random declared t net d).answer.number ≡ 0
 unfolding end_of writes_confirm writes_authentication writes_acknowledgement writes_disconnect writes_idle
 act-number Nothing r own time random declared t net d h m a w = quiet-number r _

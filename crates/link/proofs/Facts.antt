@@ -1,26 +1,22 @@
 -- The facts of the steps, as specs/Facts.antt states them: by the cases that a step can take.
 -- Assumes nothing.
-use Rattle.std.proofs.Common.{◌≡◌, ℕ, zero, suc, ◌+◌, Bool, true, false, eqb, ltb, leb, List, [], ◌++◌, length, drop, sym, refl, ap, ◌∙◌, subst, arith, le-ltb, lt-ltb, eq-eqb, ne_eqb}
+use Rattle.std.proofs.Common.{◌≡◌, ℕ, zero, suc, ◌+◌, Bool, true, false, eqb, ltb, List, [], ◌++◌, length, drop, sym, refl, ap, subst, arith, le-ltb, lt-ltb, eq-eqb, ne_eqb}
 use Rattle.ground.specs.Choice.{pick}
-use Rattle.telegram.specs.Commands.{kind_of, kind_of_command}
+use Rattle.telegram.specs.Commands.{kind_of}
 use Rattle.telegram.specs.Telegrams.{sealed, body, request, confirm}
 use Rattle.telegram.specs.Values.{good_idle}
-use Rattle.telegram.specs.Fields.{random_of, idle_time_of, version_x_of}
-use Rattle.telegram.specs.Check.{command_of, check_of}
+use Rattle.telegram.specs.Fields.{random_of, idle_time_of}
 use Rattle.telegram.specs.Writers.{Outcome, answer_of, left_by, refusal, unless, connect_allowed, writes_request, writes_confirm}
 use Rattle.telegram.proofs.Taken.{disconnect_taken}
 use Rattle.telegram.specs.declared.End.{End}
-use Rattle.telegram.specs.declared.Kind.{Kind}
-use Rattle.telegram.specs.declared.Kind.TheVariants as kind
-use Rattle.telegram.specs.declared.Check.TheVariants.{Passes}
 use Rattle.telegram.specs.declared.Written.{Written}
 use Rattle.link.proofs.Cases.{columns}
 use Rattle.link.specs.Records.{end_of, at_rest, become, closed_by}
 use Rattle.link.specs.Times.{gap, wait_over, watch_over}
 use Rattle.link.specs.Table.{cell, reading, otherwise, Connect-snd, Data-snd, Timeout-snd, Timeout-rcv, Timeout-brk, Data-rcv, Idle-rcv, Incorrect-rcv-1st, Incorrect-rcv-2nd, ConReq-rcv, ConAck-rcv, AuthReq-rcv, AuthAck-rcv, Discon-snd, FDiscon-snd, Discon-rcv}
-use Rattle.link.specs.Judged.{row_of, ruled, narrowed, good_version, judged, passed, ticked, expected_now, run_out, run_out_verdict}
+use Rattle.link.specs.Judged.{ruled, judged, passed, ticked, run_out_verdict}
 use Rattle.link.specs.Steps.{next, neb, first_refusal, declared_by, taken, sent, quietly, refused_step, writing_step, act_of, act_out, unless_step, unless_out, open_refusal, open_of, open_out, close_refusal, close_of, send_refusal, send_of, received_refusal, received_of, received_out, tick_refusal, tick_of}
-use Rattle.link.specs.Facts.{Same, SameConnection, FinalStays, DisconnectBeforeClosing, ClosedAtRest, none_named, Carries1000, Unnamed, VersionDecides, Waits, Watch, AsPrinted, ByTheTable}
+use Rattle.link.specs.Facts.{Same, SameConnection, FinalStays, DisconnectBeforeClosing, ClosedAtRest, none_named, Carries1000, Unnamed, Waits, Watch, AsPrinted, ByTheTable}
 use Rattle.link.specs.Plain.{idle_time_by}
 use Rattle.link.specs.declared.Record.{Record}
 use Rattle.link.specs.declared.Step.{Step}
@@ -238,47 +234,6 @@ by_the_table =
       waited = λ r own time t other out. (rw out (ran_out_waiting r.phase other), rw out (ran_out_waiting r.phase other));
       silent = λ r own time t going out. (rw out (ran_out_open r.phase going), rw out (ran_out_open r.phase going));
       due = λ r time going in_time idle. rw (in_time, eq-eqb r.phase 5 going, idle) (ap (ruled Timeout-snd) going);
-    }
-
--- The version
-
--- a telegram that comes in time and passes the check, once its kind and the phase are known
-pub by_its_row : (r : Record) (own time : ℕ) (t : List ℕ) (k : Kind) (p : ℕ) → run_out r time ≡ false → check_of (end_of r own) (expected_now r) t ≡ Passes
-    → kind_of_command (command_of t) ≡ k → r.phase ≡ p → judged r own time t ≡ narrowed (ruled (row_of k) p) r t
-by_its_row r own time t k p in_time passes kind-is phase =
-    by_the_table.passing r own time t in_time passes ∙ ap (λ (z : Kind). narrowed (ruled (row_of z) r.phase) r t) kind-is
-    ∙ ap (λ (z : ℕ). narrowed (ruled (row_of k) z) r t) phase
-
--- nothing runs out on a closed record, and the wait while a confirm is awaited; in both phases 0 is expected
-pub closed_in_time : (r : Record) (time : ℕ) → r.phase ≡ 1 → run_out r time ≡ false
-unfolding run_out pick
-closed_in_time r time phase = rw phase refl
-
-waiting_in_time : (r : Record) (time : ℕ) → r.phase ≡ 2 → wait_over r time ≡ false → run_out r time ≡ false
-unfolding run_out pick
-waiting_in_time r time phase early = rw (early, phase) refl
-
-expects_0 : (r : Record) (p : ℕ) → leb 3 p ≡ false → r.phase ≡ p → expected_now r ≡ 0
-unfolding expected_now pick
-expects_0 r p early phase = rw (phase, early) refl
-
-passes_now : (r : Record) (own p : ℕ) (t : List ℕ) → leb 3 p ≡ false → r.phase ≡ p → check_of (end_of r own) 0 t ≡ Passes
-    → check_of (end_of r own) (expected_now r) t ≡ Passes
-passes_now r own p t early phase passes = ap (λ (n : ℕ). check_of (end_of r own) n t) (expects_0 r p early phase) ∙ passes
-
-pub version_decides : VersionDecides
-unfolding good_version pick
-version_decides =
-    record {
-      request_taken = λ r own time t closed passes kind-is x.
-          by_its_row r own time t kind.Request 1 (closed_in_time r time closed) (passes_now r own 1 t refl closed passes) kind-is closed ∙ (rw (eq-eqb (version_x_of t) 3 x) refl);
-      request_dropped = λ r own time t closed passes kind-is other.
-          by_its_row r own time t kind.Request 1 (closed_in_time r time closed) (passes_now r own 1 t refl closed passes) kind-is closed ∙ (rw (ne_eqb (version_x_of t) 3 other) refl);
-      confirm_taken = λ r own time t awaited early passes kind-is x.
-          by_its_row r own time t kind.Confirm 2 (waiting_in_time r time awaited early) (passes_now r own 2 t refl awaited passes) kind-is awaited ∙ (rw (eq-eqb (version_x_of t) 3 x) refl);
-      confirm_closes = λ r own time t awaited early passes kind-is other.
-          by_its_row r own time t kind.Confirm 2 (waiting_in_time r time awaited early) (passes_now r own 2 t refl awaited passes) kind-is awaited ∙ (rw (ne_eqb (version_x_of t) 3 other) refl);
-      y_and_z_free = λ t u same. ap (λ (x : ℕ). eqb x 3) same;
     }
 
 pub disconnect_before_closing : DisconnectBeforeClosing

@@ -4,11 +4,10 @@ use Rattle.std.specs.Prelude.{◌≡◌, ℕ, ◌+◌, ◌≤◌, Bool, true, fa
 use Rattle.ground.specs.Choice.{pick}
 use Rattle.telegram.specs.Commands.{kind_of_command}
 use Rattle.telegram.specs.Layout.{most}
-use Rattle.telegram.specs.Fields.{idle_time_of, version_x_of}
+use Rattle.telegram.specs.Fields.{idle_time_of}
 use Rattle.telegram.specs.Writers.{left_by, connect_allowed, writes_disconnect}
 use Rattle.telegram.specs.Writers.Outcome.{wrote}
 use Rattle.telegram.specs.Facts.{Taken}
-use Rattle.telegram.specs.declared.Kind.TheVariants as kind
 use Rattle.telegram.specs.declared.Kind.TheVariants.{Request, Disconnect}
 use Rattle.telegram.specs.Check.{command_of, check_of}
 use Rattle.telegram.specs.declared.Clause.{Clause}
@@ -16,8 +15,8 @@ use Rattle.telegram.specs.declared.Check.TheVariants.{Passes, Failed}
 use Rattle.link.specs.Records.{end_of, at_rest, record_in_range, closed_by}
 use Rattle.link.specs.Times.{wait_over, watch_over, idle_due}
 use Rattle.link.specs.Table.{Row, cell, reading, otherwise, Timeout-snd, Timeout-rcv, Timeout-brk, Incorrect-rcv-1st}
-use Rattle.link.specs.Judged.{row_of, ruled, narrowed, good_version, expected_now, run_out, judged, ticked}
-use Rattle.link.specs.declared.Verdict.TheVariants.{Nothing, Confirm, Authenticate, Close}
+use Rattle.link.specs.Judged.{row_of, ruled, narrowed, expected_now, run_out, judged, ticked}
+use Rattle.link.specs.declared.Verdict.TheVariants.{Confirm, Close}
 use Rattle.link.specs.Steps.{declared_by, act_out, open_refusal, open_of, open_out, close_refusal, close_of, send_refusal, send_of, received_refusal, received_of, received_out, tick_refusal, tick_of}
 use Rattle.link.specs.Plain.{idle_time_by}
 use Rattle.link.specs.declared.Record.{Record}
@@ -118,20 +117,6 @@ pub record Unnamed : Type 0 where
       → Carries1000 (open_out r own random (none_named beside) net d)
   pub confirmed : (r : Record) (own time random beside : ℕ) (t net d : List ℕ) → judged r own time t ≡ Confirm
       → (received_of r own time random (none_named beside) t net d).answer.number ≡ 0 → Carries1000 (received_out r own time random (none_named beside) t net d)
-
--- Of the version of a request or confirm X alone decides (8.1.2.2.5, 8.1.2.2.6; change request a): with X = 3 a request on a closed record is confirmed and a confirm
--- that is awaited is answered; with another X the request is dropped, and the confirm closes finally with 01h (5.2.5.8.2).
-pub record VersionDecides : Type 0 where
-  pub request_taken : (r : Record) (own time : ℕ) (t : List ℕ) → r.phase ≡ 1 → check_of (end_of r own) 0 t ≡ Passes → kind_of_command (command_of t) ≡ kind.Request
-      → version_x_of t ≡ 3 → judged r own time t ≡ Confirm
-  pub request_dropped : (r : Record) (own time : ℕ) (t : List ℕ) → r.phase ≡ 1 → check_of (end_of r own) 0 t ≡ Passes → kind_of_command (command_of t) ≡ kind.Request
-      → (version_x_of t ≢ 3) → judged r own time t ≡ Nothing
-  pub confirm_taken : (r : Record) (own time : ℕ) (t : List ℕ) → r.phase ≡ 2 → wait_over r time ≡ false → check_of (end_of r own) 0 t ≡ Passes
-      → kind_of_command (command_of t) ≡ kind.Confirm → version_x_of t ≡ 3 → judged r own time t ≡ Authenticate
-  pub confirm_closes : (r : Record) (own time : ℕ) (t : List ℕ) → r.phase ≡ 2 → wait_over r time ≡ false → check_of (end_of r own) 0 t ≡ Passes
-      → kind_of_command (command_of t) ≡ kind.Confirm → (version_x_of t ≢ 3) → judged r own time t ≡ Close 0x01 true
-  -- Y and Z are free: telegrams of one X are judged alike
-  pub y_and_z_free : (t u : List ℕ) → version_x_of t ≡ version_x_of u → good_version t ≡ good_version u
 
 -- Waits: 5,000 ms after our last sending is in time, 5,001 is not.
 pub record Waits : Type 0 where

@@ -1,9 +1,9 @@
 -- What a received telegram or a tick asks for: by the transition table, narrowed where the scope asks for more than the table knows. Order when several hold:
 -- wait or watch run out, the check's clauses, the phase, the authentication number or version; on a tick closing before idle.
 -- Assumes nothing.
-use Rattle.std.specs.Prelude.{ℕ, ◌+◌, ◌-◌, ◌%◌, ◌^◌, Bool, true, false, List, ◌==◌, nat_le}
-use Rattle.ground.specs.Choice.{pick}
-use Rattle.telegram.specs.Fields.{version_x_of, authentication_of}
+use Rattle.std.specs.Prelude.{ℕ, ◌+◌, ◌-◌, ◌%◌, ◌^◌, Bool, true, false, List, [], ◌∷◌, ◌==◌, nat_le}
+use Rattle.ground.specs.Choice.{pick, all}
+use Rattle.telegram.specs.Fields.{version_x_of, version_y_of, authentication_of}
 use Rattle.telegram.specs.Commands.{kind_of_command}
 use Rattle.telegram.specs.Telegrams.{authentication_number}
 use Rattle.telegram.specs.Check.{command_of, check_of}
@@ -79,10 +79,9 @@ verdict_of f13 n reason = Nothing
 abbrev pub ruled : Row → ℕ → Verdict
 ruled row p = verdict_of (reading row p).action (reading row p).next (reason_for row p)
 
--- The versions of a request or confirm that are accepted: X = 3, which is ours (8.2.1.3), since another X is not compatible (8.1.2.2.2). Y is free, as an equal X is
--- compatible whatever Y is (8.1.2.2.5), and so is Z, which is the vendor's (8.1.2.2.6).
+-- Versions of a request or confirm (8): X = 3 and Y = 0; Z is free.
 unfoldable pub good_version : List ℕ → Bool
-good_version t = version_x_of t == 3
+good_version t = all ((version_x_of t == 3) ∷ (version_y_of t == 0) ∷ [])
 
 -- The number n before x, modulo 2^32.
 abbrev pub back : ℕ → ℕ → ℕ

@@ -236,11 +236,14 @@ fn run_out(record: Record, time: u64) -> bool
     wait_over(record, time)
 }
 
-// Whether a request's or confirm's version is accepted: by its first number alone.
+// Whether a request's or confirm's version is accepted.
 fn good_version(telegram: &[u8]) -> bool
     ensures { result ≡ good_version telegram.now }
 {
-    telegram::version_x(telegram) == 3
+    if telegram::version_x(telegram) != 3 {
+        return false;
+    }
+    telegram::version_y(telegram) == 0
 }
 
 // Whether an authentication number is our random number, changed as the level asks. Ours is that many before the number that we send next.

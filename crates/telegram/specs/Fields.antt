@@ -15,6 +15,9 @@ idle_time_of t = get_or (values Request t) 1 0
 abbrev pub version_x_of : List ℕ → ℕ
 version_x_of t = get_or (values Request t) 2 0
 
+abbrev pub version_y_of : List ℕ → ℕ
+version_y_of t = get_or (values Request t) 3 0
+
 -- Of an authentication or its acknowledgement.
 abbrev pub authentication_of : List ℕ → ℕ
 authentication_of t = get_or (values Authentication t) 0 0

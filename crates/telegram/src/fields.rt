@@ -2,7 +2,7 @@
 ghost use Rattle.std.specs.Prelude.{◌≡◌};
 ghost use Rattle.telegram.specs.Commands.{kind_of_command};
 ghost use Rattle.telegram.specs.Check.{command_of};
-ghost use Rattle.telegram.specs.Fields.{random_of, idle_time_of, version_x_of, authentication_of, type_of, reason_of, low_of};
+ghost use Rattle.telegram.specs.Fields.{random_of, idle_time_of, version_x_of, version_y_of, authentication_of, type_of, reason_of, low_of};
 
 use crate::Kind;
 use crate::commands::kind_of;
@@ -39,6 +39,12 @@ pub fn version_x(telegram: &[u8]) -> u32
     ensures { result ≡ version_x_of telegram.now }
 {
     number_at1(telegram, 8)
+}
+
+pub fn version_y(telegram: &[u8]) -> u32
+    ensures { result ≡ version_y_of telegram.now }
+{
+    number_at1(telegram, 9)
 }
 
 // Of an authentication or its acknowledgement.

@@ -15,7 +15,7 @@ pub use commands::{
 pub use ends::{HIGHEST_ADDRESS, in_range, receiving_bytes, sending_bytes};
 pub use fields::{
     authentication_number, command_low, disconnect_reason, disconnect_type, idle_time,
-    kind_of_telegram, random_number, version_x,
+    kind_of_telegram, random_number, version_x, version_y,
 };
 pub use layout::{LONGEST, length_suits, most_net, on_bus};
 pub use levels::{added_number, level_of, top_bits, word_length, word_of};

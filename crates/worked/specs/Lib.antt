@@ -7,4 +7,3 @@ pub mod EveryStep
 pub mod IdleTimes
 pub mod OneEnd
 pub mod SetUp
-pub mod Versions

@@ -36,8 +36,8 @@ use Rattle.demands.specs.OneEnd.{GoodRequest}
 use Rattle.demands.specs.IdleTimes.{Declares, Demand2IdleTimes}
 use Rattle.demands.proofs.DamagedConnect.{of_levels}
 use Rattle.demands.proofs.Worked.{idle_time_answers}
-use Rattle.demands.proofs.SetUp.{version_good}
 use Rattle.demands.proofs.IdleTimes.{demand_2_idle_times}
+use Rattle.wrong.proofs.OtherTables.{good_version_holds}
 use Rattle.wrong.specs.IdleTimes.{Rule, declaring, DeclaringByOurRuleIsOurs, AsThePapersSay, NoOtherRule, with500, with500_at2, number_beside, zero_is_none, unwritable, partners_time, PartnersTimeIsShutOut, WrongIdleTimesAreShutOut}
 
 pub declaring_by_our_rule_is_ours : DeclaringByOurRuleIsOurs
@@ -105,7 +105,7 @@ for_it l i = refl
 
 good_request : (l : ℕ) (i : IdleTime) → Level l → GoodRequest (comes l i)
 unfolding fresh_of end_of expected_now pick
-good_request l i k = record { passes = k.taken.passes; kind = k.taken.kind; version = version_good (asking l) 0 0 k.taken.fields }
+good_request l i k = record { passes = k.taken.passes; kind = k.taken.kind; version = good_version_holds (asking l) k.taken.fields }
 
 -- What a link declares by a time x of its own, where a telegram is to carry another: x is that time, if it is one that a telegram may carry, and else is turned
 -- away too.

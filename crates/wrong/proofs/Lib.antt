@@ -1,5 +1,4 @@
 pub mod IdleTimes
 pub mod OtherTables
-pub mod Versions
 pub mod WrongLinks
 pub mod WrongChecks

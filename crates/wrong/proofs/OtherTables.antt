@@ -16,7 +16,7 @@ use Rattle.telegram.specs.Values.{good_idle, good_type, listed_reason}
 use Rattle.telegram.specs.Fields.{type_of, authentication_of}
 use Rattle.telegram.specs.Layout.{on_bus, values}
 use Rattle.telegram.specs.Telegrams as telegrams
-use Rattle.telegram.specs.Telegrams.{authentication_number, body, sealed}
+use Rattle.telegram.specs.Telegrams.{version_and_bus, authentication_number, body, sealed}
 use Rattle.telegram.specs.Writers.{refusal, connect_allowed, disconnect_allowed, data_allowed, writes_request, writes_confirm, writes_authentication, writes_acknowledgement, writes_disconnect, writes_idle, writes_data}
 use Rattle.telegram.specs.Check.{command_of, check_of}
 use Rattle.telegram.specs.Facts.{Taken}
@@ -33,11 +33,10 @@ use Rattle.link.proofs.Bound.{table_bound}
 use Rattle.link.specs.Records.{end_of, is_phase, is_closed, at_rest, record_in_range}
 use Rattle.link.specs.Times.{wait_over, watch_over, idle_due}
 use Rattle.link.specs.Table.{Cell, Row, ◌⇒◌, f00, defect, reading, Connect-snd, Data-snd, Timeout-snd, Timeout-rcv, Timeout-brk, Data-rcv, Idle-rcv, Incorrect-rcv-1st, Incorrect-rcv-2nd, ConReq-rcv, ConAck-rcv, AuthReq-rcv, AuthAck-rcv, Discon-snd, FDiscon-snd, Discon-rcv}
-use Rattle.link.specs.Judged.{row_of, good_number, back, expected_now, run_out}
+use Rattle.link.specs.Judged.{row_of, good_version, good_number, back, expected_now, run_out}
 use Rattle.link.specs.Steps.{first_refusal, declared_by, open_refusal, open_of, open_out, close_refusal, close_of, close_out, send_refusal, send_of, send_out, received_refusal, received_of, received_out, tick_refusal, tick_of, tick_out}
 use Rattle.link.specs.Facts.{none_named}
 use Rattle.link.specs.Bound.{Sent, none, connectRequest, connectConfirm, authentication, acknowledgement, data_telegram, idleTelegram, disconnect, finalDisconnect, number_of, Stands, of_phase, Obeys, Keeps, instead, Timer, interval, watch, wait, row_of_timer, runs, TableBinds}
-use Rattle.demands.proofs.SetUp.{version_good}
 use Rattle.wrong.specs.OtherTables.{Alike, NoOtherTable}
 use Rattle.link.specs.declared.Record.{Record}
 use Rattle.link.specs.declared.Step.{Step}
@@ -254,7 +253,11 @@ unfolding pick
 either_way true c = refl
 either_way false c = refl
 
--- the numbers returned are those two and one before 0
+-- our version is a good one, and the numbers returned are those two and one before 0
+pub good_version_holds : (t : List ℕ) → values kind.Request t ≡ 0 ∷ 0 ∷ version_and_bus → good_version t ≡ true
+unfolding good_version pick
+good_version_holds t e = ap (λ (vs : List ℕ). all (eqb (get_or vs 2 0) 3 ∷ eqb (get_or vs 3 0) 0 ∷ [])) e
+
 good_number_holds : (n p : ℕ) (t : List ℕ) → values kind.Authentication t ≡ authentication_number 4 (back n 0) ∷ [] → good_number (at p 0 0) n t ≡ true
 unfolding good_number
 good_number_holds n p t e = eq-eqb (authentication_of t) (authentication_number 4 (back n 0)) (ap (λ (vs : List ℕ). get_or vs 0 0) e)
@@ -263,13 +266,13 @@ requested : (p : ℕ) → 1 ≤ p → p ≤ 6 → Seen ConReq-rcv p
 unfolding writes_request refusal connect_allowed in_range good_idle word_length pick
 requested p l h =
     let taken = request_taken there 0 0 0 [] room (telegrams.request there 0 0 []) (omega arith) tt refl in
-    seen_of kind.Request p (telegrams.request there 0 0 []) _ _ l h taken (λ c. rw (version_good (telegrams.request there 0 0 []) 0 0 taken.fields) (either_way (eqb p 1) c))
+    seen_of kind.Request p (telegrams.request there 0 0 []) _ _ l h taken (λ c. rw (good_version_holds (telegrams.request there 0 0 []) taken.fields) (either_way (eqb p 1) c))
 
 confirmed : (p : ℕ) → 1 ≤ p → p ≤ 6 → Seen ConAck-rcv p
 unfolding writes_confirm refusal connect_allowed in_range good_idle word_length pick
 confirmed p l h =
     let taken = confirm_taken there 0 0 0 [] room (telegrams.confirm there 0 0 []) (omega arith) tt refl in
-    seen_of kind.Confirm p (telegrams.confirm there 0 0 []) _ _ l h taken (λ c. rw (version_good (telegrams.confirm there 0 0 []) 0 0 taken.fields) (either_way (eqb p 2) c))
+    seen_of kind.Confirm p (telegrams.confirm there 0 0 []) _ _ l h taken (λ c. rw (good_version_holds (telegrams.confirm there 0 0 []) taken.fields) (either_way (eqb p 2) c))
 
 authenticated : (p : ℕ) → 1 ≤ p → p ≤ 6 → Seen AuthReq-rcv p
 unfolding writes_authentication refusal in_range pick

@@ -56,7 +56,7 @@ use Rattle.demands.specs.Demand3.{Two, Wrote}
 use Rattle.demands.specs.Demand3.Wrote.{idle}
 use Rattle.demands.specs.OneEnd.{ByAnAnswer}
 use Rattle.demands.specs.OneEnd.LooksAt.{tick, receipt}
-use Rattle.wrong.specs.WrongLinks.{judging, narrowed_by, NarrowingAsOursIsOurs, numbered, NumberingByOurNumberIsOurs, PassingEverythingIsShutOut, PassingNothingIsShutOut, CheckingByOurWordIsOurs, ConstantWordIsShutOut, ConstantWordPassesForTwo, AddressesFromTheFrameAreShutOut, OnlyByte1ComparedIsShutOut, RefusingEverythingIsShutOut, SayingTheSameIsShutOut, LeavingTheSameIsShutOut, OneOutcomeAlwaysIsShutOut, LeavingTableAndBufferIdleIsShutOut, WorkingForTheFirstOnlyIsShutOut, JudgingByOurRulesIsOurs, OwnIdleTimeWatchedIsShutOut, WaitOf5000OrMoreIsShutOut, NeverSendingIdleIsShutOut, RefusingLateTicksIsShutOut, TakingWhatComesTooLateIsShutOut, AuthenticationPlus1AtBothLevelsIsShutOut, TwoWithPlus1Open, WrongNumberBy05IsShutOut, OpeningByAnyNumberIsShutOut, ClosingWithoutADisconnectIsShutOut, WritingAConstantWordIsShutOut, TwoWithAConstantWordOpen, ExchangedSAPsAreShutOut, TwoWithExchangedSAPsOpen, NumberNotAdvancedIsShutOut, NetDataOneByteFurtherAreShutOut, OpenAtTheConfirmIsShutOut, ReopeningIsShutOut, ClosingNeverFinallyIsShutOut, RecordByPlaceIsShutOut, RecordByPlaceAndFrameIsShutOut, TouchingTheNeighbourIsShutOut, AnotherOrderIsShutOut, TimeSetByARefusalIsShutOut, WrongOnesAreShutOut}
+use Rattle.wrong.specs.WrongLinks.{judging, numbered, numbered_by, NumberingByOurNumberIsOurs, PassingEverythingIsShutOut, PassingNothingIsShutOut, CheckingByOurWordIsOurs, ConstantWordIsShutOut, ConstantWordPassesForTwo, AddressesFromTheFrameAreShutOut, OnlyByte1ComparedIsShutOut, RefusingEverythingIsShutOut, SayingTheSameIsShutOut, LeavingTheSameIsShutOut, OneOutcomeAlwaysIsShutOut, LeavingTableAndBufferIdleIsShutOut, WorkingForTheFirstOnlyIsShutOut, JudgingByOurRulesIsOurs, OwnIdleTimeWatchedIsShutOut, WaitOf5000OrMoreIsShutOut, NeverSendingIdleIsShutOut, RefusingLateTicksIsShutOut, TakingWhatComesTooLateIsShutOut, AuthenticationPlus1AtBothLevelsIsShutOut, TwoWithPlus1Open, WrongNumberBy05IsShutOut, OpeningByAnyNumberIsShutOut, ClosingWithoutADisconnectIsShutOut, WritingAConstantWordIsShutOut, TwoWithAConstantWordOpen, ExchangedSAPsAreShutOut, TwoWithExchangedSAPsOpen, NumberNotAdvancedIsShutOut, NetDataOneByteFurtherAreShutOut, OpenAtTheConfirmIsShutOut, ReopeningIsShutOut, ClosingNeverFinallyIsShutOut, RecordByPlaceIsShutOut, RecordByPlaceAndFrameIsShutOut, TouchingTheNeighbourIsShutOut, AnotherOrderIsShutOut, TimeSetByARefusalIsShutOut, WrongOnesAreShutOut}
 
 -- Checks
 
@@ -290,20 +290,12 @@ taking_what_comes_too_late_is_shut_out d =
     (receipt (record { sender = 9; destination_sap = 3; source_sap = 3 }) 0 (none_named 0) data_of_9 [] refl refl) refl (λ e. omega arith) (lit< tt) refl).says in
     omega arith
 
-pub narrowing_as_ours_is_ours : NarrowingAsOursIsOurs
+pub numbering_by_our_number_is_ours : NumberingByOurNumberIsOurs
 unfolding judged passed
-narrowing_as_ours_is_ours narrow alike c h t time d =
+numbering_by_our_number_is_ours c h t time d =
     ap (λ (receipt : Record → ℕ → ℕ → List ℕ → Verdict). judging receipt ticked c h t time d)
     (λ i r own now telegram. pick (run_out r now) (run_out_verdict r.phase) (checked (check_of (end_of r own) (expected_now r) telegram) r telegram i))
     ∙ judging_by_our_rules_is_ours c h t time d
-  where
-    checked : (c : Check) (r : Record) (t : List ℕ) → narrowed_by narrow c r t ≡ checked_by c r t
-    checked Passes r t = alike (ruled (row_of (kind_of_command (command_of t))) r.phase) r t
-    checked (Failed c) r t = refl
-    checked (Refused n) r t = refl
-
-pub numbering_by_our_number_is_ours : NumberingByOurNumberIsOurs
-numbering_by_our_number_is_ours = narrowing_as_ours_is_ours (numbered good_number (verdict.Close 0x03 true)) alike
   where
     alike : (v : Verdict) (r : Record) (t : List ℕ) → numbered good_number (verdict.Close 0x03 true) v r t ≡ narrowed v r t
     alike verdict.Acknowledge r t = refl
@@ -316,6 +308,11 @@ numbering_by_our_number_is_ours = narrowing_as_ours_is_ours (numbered good_numbe
     alike verdict.SendIdle r t = refl
     alike verdict.Disconnected r t = refl
     alike (verdict.Close reason last) r t = refl
+
+    checked : (c : Check) (r : Record) (t : List ℕ) → numbered_by good_number (verdict.Close 0x03 true) c r t ≡ checked_by c r t
+    checked Passes r t = alike (ruled (row_of (kind_of_command (command_of t))) r.phase) r t
+    checked (Failed c) r t = refl
+    checked (Refused n) r t = refl
 
 -- Node 8 awaits an acknowledgement with its random number 0, changed: 2 at level 2. Node 9 acknowledges with 1.
 abbrev acknowledged_1 : List ℕ
@@ -486,7 +483,6 @@ wrong_ones_are_shut_out =
     record {
       checking_by_our_word_is_ours = checking_by_our_word_is_ours;
       judging_by_our_rules_is_ours = judging_by_our_rules_is_ours;
-      narrowing_as_ours_is_ours = narrowing_as_ours_is_ours;
       numbering_by_our_number_is_ours = numbering_by_our_number_is_ours;
       passing_everything = passing_everything_is_shut_out;
       passing_nothing = passing_nothing_is_shut_out;

@@ -203,23 +203,7 @@ timers_on_ticks_only = judging (λ r own time t. checked_by (check_of (end_of r 
 abbrev pub TakingWhatComesTooLateIsShutOut : Type 0
 TakingWhatComesTooLateIsShutOut = Demand2 timers_on_ticks_only → ⊥
 
--- As ours, but what a telegram asks for that passes the check, by the verdict of the table, is given; with `narrowed` it is ours.
-abbrev pub narrowed_by : (Verdict → Record → List ℕ → Verdict) → Check → Record → List ℕ → Verdict
-narrowed_by narrow Passes r t = narrow (ruled (row_of (kind_of_command (command_of t))) r.phase) r t
-narrowed_by narrow (Failed c) r t = ruled Incorrect-rcv-1st r.phase
-narrowed_by narrow (Refused n) r t = ruled Incorrect-rcv-1st r.phase
-
-abbrev pub narrowing : (Verdict → Record → List ℕ → Verdict) → Link
-narrowing narrow =
-    judging
-    (λ r own time t. pick (run_out r time) (run_out_verdict r.phase) (narrowed_by narrow (check_of (end_of r own) (expected_now r) t) r t)) ticked
-
-abbrev pub NarrowingAsOursIsOurs : Type 0
-NarrowingAsOursIsOurs =
-    (narrow : Verdict → Record → List ℕ → Verdict) → ((v : Verdict) (r : Record) (t : List ℕ) → narrow v r t ≡ narrowed v r t)
-    → (c : Call) (h : Head) (t : List Record) (time : ℕ) (d : List ℕ) → narrowing narrow c h t time d ≡ called c h t time d
-
--- So with which authentication number is good, and what another one asks for; with `good_number` and 03h, finally, it is ours.
+-- As ours, but which authentication number is good, and what another one asks for, are given; with `good_number` and 03h, finally, it is ours.
 abbrev pub numbered : (Record → ℕ → List ℕ → Bool) → Verdict → Verdict → Record → List ℕ → Verdict
 numbered good bad verdict.Acknowledge r t = pick (good r 1 t) verdict.Acknowledge bad
 numbered good bad verdict.Open r t = pick (good r 2 t) verdict.Open bad
@@ -232,8 +216,15 @@ numbered good bad verdict.SendIdle r t = narrowed verdict.SendIdle r t
 numbered good bad verdict.Disconnected r t = narrowed verdict.Disconnected r t
 numbered good bad (verdict.Close reason last) r t = narrowed (verdict.Close reason last) r t
 
+abbrev pub numbered_by : (Record → ℕ → List ℕ → Bool) → Verdict → Check → Record → List ℕ → Verdict
+numbered_by good bad Passes r t = numbered good bad (ruled (row_of (kind_of_command (command_of t))) r.phase) r t
+numbered_by good bad (Failed c) r t = ruled Incorrect-rcv-1st r.phase
+numbered_by good bad (Refused n) r t = ruled Incorrect-rcv-1st r.phase
+
 abbrev pub numbering : (Record → ℕ → List ℕ → Bool) → Verdict → Link
-numbering good bad = narrowing (numbered good bad)
+numbering good bad =
+    judging
+    (λ r own time t. pick (run_out r time) (run_out_verdict r.phase) (numbered_by good bad (check_of (end_of r own) (expected_now r) t) r t)) ticked
 
 abbrev pub NumberingByOurNumberIsOurs : Type 0
 NumberingByOurNumberIsOurs =
@@ -545,7 +536,6 @@ TimeSetByARefusalIsShutOut = Demand1 time_always → ⊥
 pub record WrongOnesAreShutOut : Type 0 where
   pub checking_by_our_word_is_ours : CheckingByOurWordIsOurs
   pub judging_by_our_rules_is_ours : JudgingByOurRulesIsOurs
-  pub narrowing_as_ours_is_ours : NarrowingAsOursIsOurs
   pub numbering_by_our_number_is_ours : NumberingByOurNumberIsOurs
   pub passing_everything : PassingEverythingIsShutOut
   pub passing_nothing : PassingNothingIsShutOut
