@@ -1,5 +1,1 @@
-pub mod Frame
-pub mod Lent
-pub mod Meeting
 pub mod Past
-pub mod Walk

@@ -1,5 +1,7 @@
 // What every crate may stand on: numbers of several bytes. specs/ has the choice by a test, with the rules by which a search takes it apart, and numbers as bytes; proofs/ the
 // steps of walks that know no type of ours.
+#![tactic(auto)]
+
 mod numbers;
 
 pub use numbers::{byte, number_at1, number_at2, number_at4};

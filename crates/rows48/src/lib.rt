@@ -2,6 +2,8 @@
 //
 // A row is read by a `match`, which compiles to a read of constant memory. A constant that is read at a place would be laid out on the stack each time: it is read
 // so in the default arms only, which are never reached and are not in the compiled code.
+#![tactic(auto)]
+
 ghost use Rattle.std.specs.Prelude.{◌≡◌, ◌<◌, get_or};
 ghost use Rattle.std.specs.Int.Bits.{bit_xor};
 ghost use Rattle.digits.specs.Digits.{picked};
