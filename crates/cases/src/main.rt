@@ -3,6 +3,8 @@
 // telegram written and its length, the event, what the record is afterwards, and the bytes of a short telegram. The file `stdout` beside src/ holds what
 // the papers ask for: a run that writes anything else fails. The check words in it are the library's own, but for the two that 5.3.1.7 prints.
 // The calls over a table are run by the program tables.
+#![tactic(auto)]
+
 mod cells;
 mod limits;
 mod made;

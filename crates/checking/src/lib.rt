@@ -1,4 +1,6 @@
 // The check of a received telegram. What a telegram is, and when it passes, is said in crates/telegram/specs.
+#![tactic(auto)]
+
 mod check_telegram;
 mod numbers;
 

@@ -2,6 +2,8 @@
 //
 // The register stands at the top of 64 bits, so that both widths go on in one way, up to eight bytes at a time. In each turn as many bits as come in are taken from the
 // top of the register and added to the bytes; what the digits of that number leave is added to the rest of the register, which moves up.
+#![tactic(auto)]
+
 ghost use Rattle.std.specs.Prelude.{◌≡◌, ◌++◌, ◌+◌, ◌*◌, ◌/◌, ◌%◌, ◌^◌, ◌≤◌, ◌<◌, length, take, drop};
 ghost use Rattle.checkword.specs.Bytes.{number};
 ghost use Rattle.checkword.specs.Generators.{generator48, generator32};

@@ -1,5 +1,7 @@
 // The local clock of SUBSET-056: Reference Time on a node without the reference clock, from the Sync and Reference Time messages. It knows no telegram and no
 // record. The estimator is the caller's, and each message brings it up to date where it stands.
+#![tactic(auto)]
+
 mod asking;
 mod checks;
 mod circle;
@@ -20,17 +22,17 @@ pub use updates::heard;
 
 // Local_Clock_Time, 3.4.7.2: the node's own counter of milliseconds.
 #[repr(C)]
-#[derive(Drop)]
+#[derive(Clone, Copy)]
 pub struct LocalTime(pub u32);
 
 // Reference Time, 3.4.6.1. Of a local time only `asking::adjusted` makes one.
 #[repr(C)]
-#[derive(Drop)]
+#[derive(Clone, Copy)]
 pub struct RefTime(pub u32);
 
 // One moment in both times.
 #[repr(C)]
-#[derive(Drop)]
+#[derive(Clone, Copy)]
 pub struct Pair {
     pub reference: RefTime,
     pub local: LocalTime,
@@ -38,7 +40,7 @@ pub struct Pair {
 
 // A Sync and Reference Time message, 6.3.1.9: its number, and the Reference Time of the one before it.
 #[repr(C)]
-#[derive(Drop)]
+#[derive(Clone, Copy)]
 pub struct Message {
     pub number: u32,
     pub reference: RefTime,
@@ -46,7 +48,7 @@ pub struct Message {
 
 // The message received last: whether there was one, which 0 denies, its number, and the local time saved at it.
 #[repr(C)]
-#[derive(Drop)]
+#[derive(Clone, Copy)]
 pub struct Last {
     pub received: u32,
     pub number: u32,
@@ -55,7 +57,7 @@ pub struct Last {
 
 // The period of 7.4.3.6 and 7.4.3.7: where it began, the factor that was valid there, and the messages received in it.
 #[repr(C)]
-#[derive(Drop)]
+#[derive(Clone, Copy)]
 pub struct Period {
     pub begun: LocalTime,
     pub factor: u32,
@@ -64,7 +66,7 @@ pub struct Period {
 
 // The estimator: the pairs, newest first, how many of them count, the state, the message received last, the moment of the last resynchronisation, the period.
 #[repr(C)]
-#[derive(Drop)]
+#[derive(Clone, Copy)]
 pub struct Clock {
     pub pairs: [Pair; 16],
     pub count: u32,
@@ -75,14 +77,14 @@ pub struct Clock {
 }
 
 // What a message leaves: the clock, and the event by its number.
-#[derive(Drop)]
+#[derive(Clone, Copy)]
 pub struct Step {
     pub clock: Clock,
     pub event: u32,
 }
 
 // What a run of bytes is.
-#[derive(Drop)]
+#[derive(Clone, Copy)]
 pub enum Reading {
     Good(Message),
     NotEleven,
@@ -90,14 +92,14 @@ pub enum Reading {
 }
 
 // The factor asked for.
-#[derive(Drop)]
+#[derive(Clone, Copy)]
 pub enum FactorAsked {
     Known(u32),
     TooFewPairs,
 }
 
 // The Reference Time asked for.
-#[derive(Drop)]
+#[derive(Clone, Copy)]
 pub enum TimeAsked {
     At(RefTime),
     TooFewPairs,
@@ -105,21 +107,21 @@ pub enum TimeAsked {
 
 // The same three as plain numbers.
 #[repr(C)]
-#[derive(Drop)]
+#[derive(Clone, Copy)]
 pub struct PlainReading {
     pub answer: u32,
     pub message: Message,
 }
 
 #[repr(C)]
-#[derive(Drop)]
+#[derive(Clone, Copy)]
 pub struct PlainFactor {
     pub answer: u32,
     pub factor: u32,
 }
 
 #[repr(C)]
-#[derive(Drop)]
+#[derive(Clone, Copy)]
 pub struct PlainTime {
     pub answer: u32,
     pub time: RefTime,

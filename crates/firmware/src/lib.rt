@@ -1,4 +1,6 @@
 // The library for the card's C firmware: plain numbers and byte runs. include/ujamniq.h declares what stands here, for the people who call it.
+#![tactic(auto)]
+
 ghost use Rattle.std.specs.Prelude.{◌≡◌, ◌++◌};
 ghost use Rattle.checkword.specs.Generators.{generator48, generator32};
 ghost use Rattle.checkword.specs.Word.{word};

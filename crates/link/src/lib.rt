@@ -1,4 +1,6 @@
 // One connection: a record by value and the five steps of the Safe Link Layer over it, at levels 4 and 2. No other record, no table.
+#![tactic(auto)]
+
 mod act;
 mod judge;
 mod phases;
@@ -16,7 +18,7 @@ pub use steps::{close, open, received, send, tick};
 
 // A connection, by plain numbers.
 #[repr(C)]
-#[derive(Drop)]
+#[derive(Clone, Copy)]
 pub struct Record {
     pub partner: u32,
     pub partner_sap: u32,
@@ -35,14 +37,14 @@ pub struct Record {
 }
 
 // An idle time that a caller names, or not.
-#[derive(Drop)]
+#[derive(Clone, Copy)]
 pub struct IdleTime {
     pub named: bool,
     pub time: u32,
 }
 
 // What happened, for the layer above.
-#[derive(Drop)]
+#[derive(Clone, Copy)]
 pub enum Event {
     Nothing,
     Opened,
@@ -59,7 +61,7 @@ pub enum Event {
 
 // The answer's number, and which telegram was written (0 none, 1 request, 2 confirm, 3 authentication, 4 acknowledgement, 5 disconnect, 6 idle, 7 data) with its length.
 #[repr(C)]
-#[derive(Drop)]
+#[derive(Clone, Copy)]
 pub struct Answer {
     pub number: u32,
     pub telegram: u32,
@@ -67,7 +69,7 @@ pub struct Answer {
 }
 
 // What a step leaves.
-#[derive(Drop)]
+#[derive(Clone, Copy)]
 pub struct Step {
     pub record: Record,
     pub answer: Answer,
@@ -76,7 +78,7 @@ pub struct Step {
 
 // An event as plain numbers: 0 nothing, 1 opened, 2 data, 3 closed; unused parts are 0.
 #[repr(C)]
-#[derive(Drop)]
+#[derive(Clone, Copy)]
 pub struct Happened {
     pub event: u32,
     pub command: u32,
@@ -88,7 +90,7 @@ pub struct Happened {
 
 // A step as plain numbers.
 #[repr(C)]
-#[derive(Drop)]
+#[derive(Clone, Copy)]
 pub struct Stepped {
     pub record: Record,
     pub answer: Answer,
@@ -96,7 +98,7 @@ pub struct Stepped {
 }
 
 // What a received telegram or a tick asks for.
-#[derive(Drop)]
+#[derive(Clone, Copy)]
 pub enum Verdict {
     Nothing,
     Confirm,

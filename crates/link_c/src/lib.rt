@@ -1,4 +1,6 @@
 // The five steps for C, on a record by value and plain numbers: for the second program that compares them, and in no archive that is installed.
+#![tactic(auto)]
+
 ghost use Rattle.std.specs.Prelude.{◌≡◌};
 ghost use Rattle.link.specs.Steps.{open_of, open_out, close_of, close_out, send_of, send_out, received_of, received_out, tick_of, tick_out};
 ghost use Rattle.link.specs.Plain.{idle_time_by, plain};

@@ -1,5 +1,7 @@
 // One node of the bus: the five calls over a lent table of connections. A record is found by what the telegram was sent under, never by its place, and a call
 // changes one record or none.
+#![tactic(auto)]
+
 mod accepted;
 mod calls;
 mod heads;
@@ -16,14 +18,14 @@ pub use outcomes::{net_data, plain_outcome};
 
 // The node's own bus address and the latest time seen, given to each call and handed back by it.
 #[repr(C)]
-#[derive(Drop)]
+#[derive(Clone, Copy)]
 pub struct Head {
     pub own: u32,
     pub latest: u64,
 }
 
 // What a telegram was sent under, as the frame has it: the sender's address, our SAP, the sender's SAP.
-#[derive(Drop)]
+#[derive(Clone, Copy)]
 pub struct Route {
     pub sender: u32,
     pub destination_sap: u32,
@@ -31,7 +33,7 @@ pub struct Route {
 }
 
 // What a call leaves beside table and buffer.
-#[derive(Drop)]
+#[derive(Clone, Copy)]
 pub struct Outcome {
     pub head: Head,
     pub answer: Answer,
@@ -40,7 +42,7 @@ pub struct Outcome {
 
 // The same as plain numbers.
 #[repr(C)]
-#[derive(Drop)]
+#[derive(Clone, Copy)]
 pub struct PlainOutcome {
     pub head: Head,
     pub answer: Answer,

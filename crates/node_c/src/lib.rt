@@ -1,4 +1,6 @@
 // The five calls and both constructors for C, on plain numbers. include/ujamniq.h declares them, for the people who call them.
+#![tactic(auto)]
+
 ghost use Rattle.std.specs.Prelude.{◌≡◌};
 ghost use Rattle.link.specs.Records.{fresh_of};
 ghost use Rattle.link.specs.Plain.{idle_time_by};

@@ -1,4 +1,6 @@
 // What the programs of cases print, word by word: answers, events, records and the bytes of a short telegram. It is no part of the library.
+#![tactic(auto)]
+
 use libc::STDOUT_FILENO;
 use link::{Answer, Event, Record};
 

@@ -1,6 +1,8 @@
 // The calls over a table, run at both levels: an on-board computer and two modules, the cards exchanged, the places exchanged, and each refusal. A line is a call: its answer, the
 // telegram written and its length, the event, the latest time, what each of the two records is afterwards, and the bytes of a short telegram. The file `stdout` beside src/ holds
 // what the papers ask for: a run that writes anything else fails. The check words in it are the library's own. The steps of one connection are run by the program cases.
+#![tactic(auto)]
+
 mod cards;
 mod owned;
 mod refusals;

@@ -1,6 +1,8 @@
 // What stands on the wire at levels 4 and 2: the seven telegrams of SUBSET-057 5.2, with their levels, commands, layouts and fields. No phase, no time, no
 // table. The definitions are in specs/, one file for each section of the paper: also those of the writers and of the check, whose code is in the crates
 // writers and checking.
+#![tactic(auto)]
+
 mod commands;
 mod ends;
 mod fields;
@@ -23,7 +25,7 @@ pub use parts::{net_data, net_part};
 pub use values::{good_dual_bus, good_idle, good_type, listed_reason};
 
 // One end of a connection, by the numbers that its writers and its check take from the caller and never from a frame.
-#[derive(Drop)]
+#[derive(Clone, Copy)]
 pub struct End {
     pub own: u32,
     pub partner: u32,
@@ -33,14 +35,14 @@ pub struct End {
 }
 
 // The level that a command's top two bits give: 4, 2 or 0, or none.
-#[derive(Drop)]
+#[derive(Clone, Copy)]
 pub enum Level {
     Sl(u32),
     Unassigned,
 }
 
 // What a command's low six bits name.
-#[derive(Drop)]
+#[derive(Clone, Copy)]
 pub enum Kind {
     Request,
     Confirm,
@@ -54,14 +56,14 @@ pub enum Kind {
 
 // What a writer did: answer 0 and the telegram's length, or a refusal and 0.
 #[repr(C)]
-#[derive(Drop)]
+#[derive(Clone, Copy)]
 pub struct Written {
     pub answer: u32,
     pub length: u32,
 }
 
 // The clauses of the check, in their order.
-#[derive(Drop)]
+#[derive(Clone, Copy)]
 pub enum Clause {
     Level,
     Command,
@@ -72,7 +74,7 @@ pub enum Clause {
 }
 
 // What the check found.
-#[derive(Drop)]
+#[derive(Clone, Copy)]
 pub enum Check {
     Passes,
     Failed(Clause),
@@ -81,7 +83,7 @@ pub enum Check {
 
 // Where the net data of a telegram lie.
 #[repr(C)]
-#[derive(Drop)]
+#[derive(Clone, Copy)]
 pub struct Part {
     pub start: u32,
     pub count: u32,

@@ -1,6 +1,8 @@
 // Every check word that SUBSET-057 prints, worked out by the library over implicit bytes and telegram as two runs, and the telegrams of 5.3.1 as the
 // writers write them and the partner's check takes them. The file `stdout` beside src/ holds the bytes as printed there: a run that writes anything
 // else fails.
+#![tactic(auto)]
+
 use libc::STDOUT_FILENO;
 use telegram::{End, Written};
 
