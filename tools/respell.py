@@ -16,6 +16,8 @@ DECLARED = re.compile(
     r"^(?:(?:abbrev|unfoldable|mutual|pub) )*(?P<word>record |data |ruleset )?(?P<name>[^\s(){}\[\]:;,@«»]+)"
     r"(?P<args>(?: [({][^\n]*?)?) (?::(?!:)(?P<type>.*)|=.*)$"
 )
+# A lemma of a section or of a `where`.
+INNER = re.compile(r"^ +(?:pub )?([a-z][^\s(){}\[\]:;,«»]*) :(?!:)")
 FIELD = re.compile(r"^ +(?:pub )?([^\s(){}\[\]:;,«»]+) :(?!:)")
 TOKEN = re.compile(r"[^\s(){}\[\]:;,.@«»`\"⌜⌝|]+")
 PLAIN = re.compile(r"[A-Za-z0-9_'₀-₉-]+")
@@ -24,6 +26,7 @@ OTHERS = re.compile(r"^\s*(?:pub )?use (?!Rattle\.(?:%s)\.)[^{\n]*\{([^}]*)\}", 
 
 # Constructors of the calls and of what a node is told: their names in small letters are those of functions of src/, and `open` is a keyword.
 KEPT = {"Close", "Open", "Received", "Send", "Tick", "R"}
+# The rows and states of the transition table are spelled as SUBSET-057 prints them.
 # Names that no file of specs/ or proofs/ declares, of fields of src/ and of what Rattle makes.
 TAKEN = {"sent_at", "received_at", "idle_time", "own", "partner"}
 
@@ -67,6 +70,11 @@ def declared(files):
                     inside = word if word in ("record", "data") else ""
                 elif re.match(r"(abbrev |unfoldable |pub )*record |(abbrev |pub )*data ", line):
                     inside = "record" if "record" in line else "data"
+            elif not inside:
+                m = INNER.match(line)
+                if m and PLAIN.fullmatch(m[1]) and re.search("[-A-Z]", m[1]):
+                    kinds[m[1]].add("word")
+                    places[m[1]].add(file)
             elif inside:
                 m = FIELD.match(line)
                 if m and PLAIN.fullmatch(m[1]):
@@ -79,7 +87,7 @@ def main():
     dry = "--dry" in sys.argv[1:]
     names = crates()
     everything = sorted(glob.glob("crates/*/specs/**/*.antt", recursive=True) + glob.glob("crates/*/proofs/**/*.antt", recursive=True))
-    function = re.compile(r"/(Proof|Answers|Invariants)\.antt$")
+    function = re.compile(r"/proofs/.*/(Proof|Answers|Invariants)\.antt$")
     shared = [it for it in everything if not function.search(it)]
     kinds, places = declared(shared)
     # What other libraries declare under the same name.

@@ -17,9 +17,9 @@ use Rattle.checkword.specs.Word.{word}
 use Rattle.checkword.specs.Facts.{Law, DependsOnlyOnXor, Burst, Meaning, OnlyMeaning, Below, ChangeInWordSeen, AgreesByBytes, AgreesByRemainder, Facts}
 use Rattle.checkword.proofs.Xor.{xor_twice}
 use Rattle.checkword.proofs.Bytes.{number_lt, number_inj, number_bytes_of, bytes_of_number}
-use Rattle.checkword.proofs.Shift.{shifts, shifts-free, shifts-inj}
-use Rattle.checkword.proofs.Run.{run_append, run_is, run-lt, run-lin, parts-equal}
-use Rattle.checkword.proofs.Remainder.{word-remainder, remainder_unique}
+use Rattle.checkword.proofs.Shift.{shifts, shifts_free, shifts_inj}
+use Rattle.checkword.proofs.Run.{run_append, run_is, run_lt, run_lin, parts_equal}
+use Rattle.checkword.proofs.Remainder.{word_remainder, remainder_unique}
 
 before_take : (a b : List ℕ) (i : ℕ) → length a ≡ length b → ((k : ℕ) → k < i → get_or a k 0 ≡ get_or b k 0) → take i a ≡ take i b
 before_take a b i l h =
@@ -35,29 +35,29 @@ after_drop a b j l h =
 
 module _ (w g : ℕ) (good : Generator w g) where
   pub below : Below w g
-  below bs h = run-lt w g good bs 0 (pow_pos w) h
+  below bs h = run_lt w g good bs 0 (pow_pos w) h
 
   pub law : Law (word w g)
-  law a b ha hb l = sym (run-lin w g good a b 0 0 l (pow_pos w) (pow_pos w) ha hb)
+  law a b ha hb l = sym (run_lin w g good a b 0 0 l (pow_pos w) (pow_pos w) ha hb)
 
   pub depends_only_on_xor : DependsOnlyOnXor (word w g)
   depends_only_on_xor a b c d ha hb hc hd l m e = law a b ha hb l ∙ ap (word w g) e ∙ sym (law c d hc hd m)
 
   -- for any n bytes that are no longer than the word
-  pub burst-of : (n : ℕ) → 8 * n ≤ w → Burst n (word w g)
-  burst-of n few a b ha hb within differ e =
+  pub burst_of : (n : ℕ) → 8 * n ≤ w → Burst n (word w g)
+  burst_of n few a b ha hb within differ e =
       differ
-      (parts-equal w g good a b within.start n within.one_length few ha hb
+      (parts_equal w g good a b within.start n within.one_length few ha hb
       (before_take a b within.start within.one_length within.before) (after_drop a b (within.start + n) within.one_length within.after) e)
 
   pub burst : Burst (w / 8) (word w g)
-  burst = burst-of (w / 8) (omega arith)
+  burst = burst_of (w / 8) (omega arith)
 
   pub meaning : Meaning w g
-  meaning = word-remainder w g good
+  meaning = word_remainder w g good
 
   pub only_meaning : OnlyMeaning w g
-  only_meaning bs r h p = remainder_unique w g good p (word-remainder w g good bs h)
+  only_meaning bs r h p = remainder_unique w g good p (word_remainder w g good bs h)
 
   pub change_in_word_seen : ChangeInWordSeen w g
   change_in_word_seen bs c d hc hd l differ p q = differ (number_inj c d l hc hd (p ∙ sym q))
@@ -76,7 +76,7 @@ module _ (w g : ℕ) (good : Generator w g) where
       ∙ ap (λ (x : ℕ). shifts w g (8 * length c) (bit_xor (word w g bs) x)) (mul-one (number c))
 
   none : (n : ℕ) → shifts w g n 0 ≡ 0
-  none n = shifts-free w g n 0 (subst (λ (x : ℕ). x < 2 ^ w) (sym (zero-mul (2 ^ n))) (pow_pos w)) ∙ zero-mul (2 ^ n)
+  none n = shifts_free w g n 0 (subst (λ (x : ℕ). x < 2 ^ w) (sym (zero-mul (2 ^ n))) (pow_pos w)) ∙ zero-mul (2 ^ n)
 
   pub agrees_by_remainder : AgreesByRemainder w g
   agrees_by_remainder n e bs c h hc l =
@@ -86,7 +86,7 @@ module _ (w g : ℕ) (good : Generator w g) where
             ∙ ap (shifts w g (8 * length c)) (xor_self (word w g bs)) ∙ none (8 * length c),
         λ p.
             let z : bit_xor (word w g bs) (number c) ≡ 0 =
-            shifts-inj w g good (8 * length c) (bit_xor (word w g bs) (number c)) 0 (xor_lt w (word w g bs) (number c) (below bs h) fits) (pow_pos w)
+            shifts_inj w g good (8 * length c) (bit_xor (word w g bs) (number c)) 0 (xor_lt w (word w g bs) (number c) (below bs h) fits) (pow_pos w)
             (sym (whole n e bs c h hc l) ∙ p ∙ sym (none (8 * length c))) in
             sym (xor_twice (word w g bs) (number c)) ∙ ap (bit_xor (word w g bs)) z ∙ xor_zero_r (word w g bs),
       )

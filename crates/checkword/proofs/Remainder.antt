@@ -16,7 +16,7 @@ use Rattle.checkword.specs.Word.{fallen, shift, feed, run, word}
 use Rattle.checkword.proofs.Xor.{xor_assoc, xor_swap, xor_twice, xor_mul}
 use Rattle.checkword.proofs.Bytes.{number_lt}
 use Rattle.checkword.proofs.Shift.{shifts}
-use Rattle.checkword.proofs.Run.{feed-is, feed-lt, run-lt}
+use Rattle.checkword.proofs.Run.{feed_is, feed_lt, run_lt}
 
 -- A sum of quotients, and a quotient times x.
 
@@ -40,8 +40,8 @@ module _ (g : ℕ) where
   pub same_refl : (a : ℕ) → Same g a a
   same_refl a = record { quotient = []; exact = xor_self a }
 
-  same-trans : {a b c : ℕ} → Same g a b → Same g b c → Same g a c
-  same-trans {a} {b} {c} p q =
+  same_trans : {a b c : ℕ} → Same g a b → Same g b c → Same g a c
+  same_trans {a} {b} {c} p q =
       record {
         quotient = p.quotient ++ q.quotient;
         exact =
@@ -49,8 +49,8 @@ module _ (g : ℕ) where
             ∙ sym (times_append g p.quotient q.quotient);
       }
 
-  pub same-eq : {a b c d : ℕ} → a ≡ c → b ≡ d → Same g a b → Same g c d
-  same-eq e f p = record { quotient = p.quotient; exact = sym (ap₂ bit_xor e f) ∙ p.exact }
+  pub same_eq : {a b c d : ℕ} → a ≡ c → b ≡ d → Same g a b → Same g c d
+  same_eq e f p = record { quotient = p.quotient; exact = sym (ap₂ bit_xor e f) ∙ p.exact }
 
   same_add : {a b : ℕ} (c : ℕ) → Same g a b → Same g (bit_xor a c) (bit_xor b c)
   same_add {a} {b} c p =
@@ -59,50 +59,50 @@ module _ (g : ℕ) where
         exact = xor_swap a c b c ∙ ap (bit_xor (bit_xor a b)) (xor_self c) ∙ xor_zero_r (bit_xor a b) ∙ p.exact;
       }
 
-  pub same-both : {a b c d : ℕ} → Same g a b → Same g c d → Same g (bit_xor a c) (bit_xor b d)
-  same-both {a} {b} {c} {d} p q = same-trans (same_add c p) (same-eq (xor_comm c b) (xor_comm d b) (same_add b q))
+  pub same_both : {a b c d : ℕ} → Same g a b → Same g c d → Same g (bit_xor a c) (bit_xor b d)
+  same_both {a} {b} {c} {d} p q = same_trans (same_add c p) (same_eq (xor_comm c b) (xor_comm d b) (same_add b q))
 
-  same-double : {a b : ℕ} → Same g a b → Same g (a * 2) (b * 2)
-  same-double {a} {b} p =
+  same_double : {a b : ℕ} → Same g a b → Same g (a * 2) (b * 2)
+  same_double {a} {b} p =
       record {
         quotient = map suc p.quotient;
         exact = sym (xor_mul a b 1) ∙ ap (λ (x : ℕ). x * 2) p.exact ∙ sym (times_up g p.quotient);
       }
 
   same_up : (n : ℕ) {a b : ℕ} → Same g a b → Same g (a * 2 ^ n) (b * 2 ^ n)
-  same_up zero {a} {b} p = same-eq (sym (mul-one a)) (sym (mul-one b)) p
-  same_up (suc n) {a} {b} p = same-eq (double_pow a n) (double_pow b n) (same-double (same_up n p))
+  same_up zero {a} {b} p = same_eq (sym (mul-one a)) (sym (mul-one b)) p
+  same_up (suc n) {a} {b} p = same_eq (double_pow a n) (double_pow b n) (same_double (same_up n p))
 
-  fallen-times : (c : ℕ) → (q : List ℕ) × (fallen g c ≡ times q g)
-  fallen-times zero = ([], refl)
-  fallen-times (suc c) = (0 ∷ [], sym (xor_zero_r (g * 1) ∙ mul-one g))
+  fallen_times : (c : ℕ) → (q : List ℕ) × (fallen g c ≡ times q g)
+  fallen_times zero = ([], refl)
+  fallen_times (suc c) = (0 ∷ [], sym (xor_zero_r (g * 1) ∙ mul-one g))
 
   shift_same : (w r : ℕ) → Same g (r * 2) (shift w g r)
   unfolding shift
   shift_same w r =
-      let f = fallen-times (r * 2 / 2 ^ w) in
+      let f = fallen_times (r * 2 / 2 ^ w) in
       record { quotient = f.0; exact = xor_twice (r * 2) (fallen g (r * 2 / 2 ^ w)) ∙ f.1 }
 
-  pub shifts-same : (w n r : ℕ) → Same g (r * 2 ^ n) (shifts w g n r)
-  shifts-same w zero r = same-eq (sym (mul-one r)) refl (same_refl r)
-  shifts-same w (suc n) r =
+  pub shifts_same : (w n r : ℕ) → Same g (r * 2 ^ n) (shifts w g n r)
+  shifts_same w zero r = same_eq (sym (mul-one r)) refl (same_refl r)
+  shifts_same w (suc n) r =
       let e : r * 2 * 2 ^ n ≡ r * 2 ^ suc n = mul_right_comm r 2 (2 ^ n) ∙ double_pow r n in
-      same-trans (same-eq e refl (same_up n (shift_same w r))) (shifts-same w n (shift w g r))
+      same_trans (same_eq e refl (same_up n (shift_same w r))) (shifts_same w n (shift w g r))
 
 module _ (w g : ℕ) (good : Generator w g) where
-  feed-same : (r b : ℕ) → r < 2 ^ w → b < 256 → Same g (bit_xor (r * 2 ^ 8) (b * 2 ^ w)) (feed w g r b)
-  feed-same r b hr hb =
+  feed_same : (r b : ℕ) → r < 2 ^ w → b < 256 → Same g (bit_xor (r * 2 ^ 8) (b * 2 ^ w)) (feed w g r b)
+  feed_same r b hr hb =
       let e : b * 2 ^ (w - 8) * 2 ^ 8 ≡ b * 2 ^ w =
       mul_assoc b (2 ^ (w - 8)) (2 ^ 8) ∙ ap (λ (x : ℕ). b * x) (sym (pow-add 2 (w - 8) 8) ∙ ap (λ (n : ℕ). 2 ^ n) (sub-add_cancel good.wide)) in
-      same-eq g (xor_mul r (b * 2 ^ (w - 8)) 8 ∙ ap (bit_xor (r * 2 ^ 8)) e) (sym (feed-is w g good r b hr hb))
-      (shifts-same g w 8 (bit_xor r (b * 2 ^ (w - 8))))
+      same_eq g (xor_mul r (b * 2 ^ (w - 8)) 8 ∙ ap (bit_xor (r * 2 ^ 8)) e) (sym (feed_is w g good r b hr hb))
+      (shifts_same g w 8 (bit_xor r (b * 2 ^ (w - 8))))
 
   -- the register after the bytes leaves the remainder of what it was, moved up by the bytes, and of the bytes
-  pub run-same : (bs : List ℕ) (r : ℕ) → r < 2 ^ w → Bytes bs → Same g (bit_xor (r * 2 ^ (8 * length bs)) (number bs * 2 ^ w)) (run w g r bs)
-  run-same [] r hr h = same-eq g (sym (ap₂ bit_xor (mul-one r) (zero-mul (2 ^ w)) ∙ xor_zero_r r)) refl (same_refl g r)
-  run-same (b ∷ bs) r hr h =
-      same-trans g (same-eq g joined refl (same_add g (number bs * 2 ^ w) (same_up g (8 * length bs) (feed-same r b hr h.0))))
-      (run-same bs (feed w g r b) (feed-lt w g good r b hr h.0) h.1)
+  pub run_same : (bs : List ℕ) (r : ℕ) → r < 2 ^ w → Bytes bs → Same g (bit_xor (r * 2 ^ (8 * length bs)) (number bs * 2 ^ w)) (run w g r bs)
+  run_same [] r hr h = same_eq g (sym (ap₂ bit_xor (mul-one r) (zero-mul (2 ^ w)) ∙ xor_zero_r r)) refl (same_refl g r)
+  run_same (b ∷ bs) r hr h =
+      same_trans g (same_eq g joined refl (same_add g (number bs * 2 ^ w) (same_up g (8 * length bs) (feed_same r b hr h.0))))
+      (run_same bs (feed w g r b) (feed_lt w g good r b hr h.0) h.1)
     where
       up : r * 2 ^ 8 * 2 ^ (8 * length bs) ≡ r * 2 ^ (8 * suc (length bs))
       up =
@@ -130,11 +130,11 @@ module _ (w g : ℕ) (good : Generator w g) where
         below = h;
       }
 
-  pub word-remainder : (bs : List ℕ) → Bytes bs → Remainder w g (number bs * 2 ^ w) (word w g bs)
-  word-remainder bs h =
+  pub word_remainder : (bs : List ℕ) → Bytes bs → Remainder w g (number bs * 2 ^ w) (word w g bs)
+  word_remainder bs h =
       let e : bit_xor (0 * 2 ^ (8 * length bs)) (number bs * 2 ^ w) ≡ number bs * 2 ^ w =
       ap (λ (x : ℕ). bit_xor x (number bs * 2 ^ w)) (zero-mul (2 ^ (8 * length bs))) in
-      remainder_of (same-eq g e refl (run-same bs 0 (pow_pos w) h)) (run-lt w g good bs 0 (pow_pos w) h)
+      remainder_of (same_eq g e refl (run_same bs 0 (pow_pos w) h)) (run_lt w g good bs 0 (pow_pos w) h)
 
 -- A quotient by its coefficients, lowest first: so a multiple of g can be taken apart from its lowest term on.
 

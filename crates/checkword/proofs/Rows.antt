@@ -17,8 +17,8 @@ use Rattle.checkword.specs.Polynomial.{Generator}
 use Rattle.checkword.specs.Word.{shift}
 use Rattle.checkword.specs.Generators.{generator48, generator32}
 use Rattle.checkword.proofs.Xor.{xor_mul}
-use Rattle.checkword.proofs.Shift.{shifts, shifts-add, shifts-lt}
-use Rattle.checkword.proofs.Remainder.{Same, same_refl, same-eq, same-both, shifts-same}
+use Rattle.checkword.proofs.Shift.{shifts, shifts_add, shifts_lt}
+use Rattle.checkword.proofs.Remainder.{Same, same_refl, same_eq, same_both, shifts_same}
 
 -- what f gives of the n numbers from i on
 abbrev made : (ℕ → ℕ) → ℕ → ℕ → List ℕ
@@ -43,33 +43,33 @@ module _ (w g s : ℕ) (low high : List ℕ) where
     rest : drop 320 (low ++ high) ≡ high
 
   module _ (test : Test) where
-    all-kept : Kept w g s w (low ++ high) 11
-    all-kept zero d hp hd =
+    all_kept : Kept w g s w (low ++ high) 11
+    all_kept zero d hp hd =
         let place : 0 * 64 + d ≡ d = omega arith in
         ap (λ (k : ℕ). get_or (low ++ high) k 0) place ∙ sym (get_or-take 64 (low ++ high) d 0 hd) ∙ ap (λ (l : List ℕ). get_or l d 0) test.first
         ∙ made_at (λ (n : ℕ). shifts w g w n * 2 ^ s) 64 0 d hd
         ∙ ap₂ (λ (n m : ℕ). shifts w g n m * 2 ^ s) (sym (add-zero w)) (zero-add d)
-    all-kept (suc p) d hp hd =
+    all_kept (suc p) d hp hd =
         let place : suc p * 64 + d ≡ 64 + (p * 64 + d) = omega arith in
         let count : w + 6 * p + 6 ≡ w + 6 * suc p = omega arith in
         ap (λ (k : ℕ). get_or (low ++ high) k 0) place ∙ sym (get_or-drop 64 (low ++ high) (p * 64 + d) 0)
         ∙ ap (λ (l : List ℕ). get_or l (p * 64 + d) 0) test.others
         ∙ made_at (λ (k : ℕ). shifts w g 6 (get_or (low ++ high) k 0 / 2 ^ s) * 2 ^ s) 640 0 (p * 64 + d) (omega arith)
         ∙ ap (λ (k : ℕ). shifts w g 6 (get_or (low ++ high) k 0 / 2 ^ s) * 2 ^ s) (zero-add (p * 64 + d))
-        ∙ ap (λ (x : ℕ). shifts w g 6 (x / 2 ^ s) * 2 ^ s) (all-kept p d (omega arith) hd)
+        ∙ ap (λ (x : ℕ). shifts w g 6 (x / 2 ^ s) * 2 ^ s) (all_kept p d (omega arith) hd)
         ∙ ap (λ (x : ℕ). shifts w g 6 x * 2 ^ s) (mul-div_cancel (shifts w g (w + 6 * p) d) (pow_pos s))
-        ∙ ap (λ (x : ℕ). x * 2 ^ s) (sym (shifts-add w g (w + 6 * p) 6 d) ∙ ap (λ (n : ℕ). shifts w g n d) count)
+        ∙ ap (λ (x : ℕ). x * 2 ^ s) (sym (shifts_add w g (w + 6 * p) 6 d) ∙ ap (λ (n : ℕ). shifts w g n d) count)
 
-    low-kept : Kept w g s w low 5
-    low-kept p d hp hd =
-        sym (get_or-append low high 0 (p * 64 + d) (omega (arith, test.five))) ∙ all-kept p d (omega arith) hd
+    low_kept : Kept w g s w low 5
+    low_kept p d hp hd =
+        sym (get_or-append low high 0 (p * 64 + d) (omega (arith, test.five))) ∙ all_kept p d (omega arith) hd
 
-    high-kept : Kept w g s (w + 30) high 6
-    high-kept p d hp hd =
+    high_kept : Kept w g s (w + 30) high 6
+    high_kept p d hp hd =
         let place : 320 + (p * 64 + d) ≡ (5 + p) * 64 + d = omega arith in
         let count : w + 6 * (5 + p) ≡ w + 30 + 6 * p = omega arith in
         ap (λ (l : List ℕ). get_or l (p * 64 + d) 0) (sym test.rest) ∙ get_or-drop 320 (low ++ high) (p * 64 + d) 0
-        ∙ ap (λ (k : ℕ). get_or (low ++ high) k 0) place ∙ all-kept (5 + p) d (omega arith) hd
+        ∙ ap (λ (k : ℕ). get_or (low ++ high) k 0) place ∙ all_kept (5 + p) d (omega arith) hd
         ∙ ap (λ (n : ℕ). shifts w g n d * 2 ^ s) count
 
 -- antt computes the test of each width
@@ -82,16 +82,16 @@ unfolding shift generator32
 test32 = record { first = refl; others = refl; five = refl; rest = refl }
 
 pub low48 : Kept 48 generator48 16 48 rows48.low 5
-low48 = low-kept 48 generator48 16 rows48.low rows48.high test48
+low48 = low_kept 48 generator48 16 rows48.low rows48.high test48
 
 pub high48 : Kept 48 generator48 16 78 rows48.high 6
-high48 = high-kept 48 generator48 16 rows48.low rows48.high test48
+high48 = high_kept 48 generator48 16 rows48.low rows48.high test48
 
 pub low32 : Kept 32 generator32 32 32 rows32.low 5
-low32 = low-kept 32 generator32 32 rows32.low rows32.high test32
+low32 = low_kept 32 generator32 32 rows32.low rows32.high test32
 
 pub high32 : Kept 32 generator32 32 62 rows32.high 6
-high32 = high-kept 32 generator32 32 rows32.low rows32.high test32
+high32 = high_kept 32 generator32 32 rows32.low rows32.high test32
 
 -- what the n lowest digits of v leave, each moved up by a bits more
 abbrev pub leaves : ℕ → ℕ → ℕ → ℕ → ℕ → ℕ
@@ -105,9 +105,9 @@ picked_leaves w g s a rows n k (suc p) v h =
     ∙ sym (xor_mul (shifts w g (a + 6 * p) (v / 2 ^ (6 * p) % 64)) (leaves w g a p v) s)
 
 pub leaves_same : (w g a p v : ℕ) → Same g (v % 2 ^ (6 * p) * 2 ^ a) (leaves w g a p v)
-leaves_same w g a zero v = same-eq g (sym (ap (λ (x : ℕ). x * 2 ^ a) (mod-one v) ∙ zero-mul (2 ^ a))) refl (same_refl g 0)
+leaves_same w g a zero v = same_eq g (sym (ap (λ (x : ℕ). x * 2 ^ a) (mod-one v) ∙ zero-mul (2 ^ a))) refl (same_refl g 0)
 leaves_same w g a (suc p) v =
-    same-eq g (sym written) refl (same-both g (shifts-same g w (a + 6 * p) d) (leaves_same w g a p v))
+    same_eq g (sym written) refl (same_both g (shifts_same g w (a + 6 * p) d) (leaves_same w g a p v))
   where
     d : ℕ
     d = v / 2 ^ (6 * p) % 64
@@ -132,5 +132,5 @@ leaves_lt w g good a zero v = pow_pos w
 leaves_lt w g good a (suc p) v =
     let digit : v / 2 ^ (6 * p) % 64 < 2 ^ w =
     lt_of_lt_of_le (mod-lt (v / 2 ^ (6 * p)) (zero-lt-suc 63)) (pow_mono {i = 6} {j = w} (omega (arith, good.wide))) in
-    xor_lt w (shifts w g (a + 6 * p) (v / 2 ^ (6 * p) % 64)) (leaves w g a p v) (shifts-lt w g good (a + 6 * p) (v / 2 ^ (6 * p) % 64) digit)
+    xor_lt w (shifts w g (a + 6 * p) (v / 2 ^ (6 * p) % 64)) (leaves w g a p v) (shifts_lt w g good (a + 6 * p) (v / 2 ^ (6 * p) % 64) digit)
     (leaves_lt w g good a p v)

@@ -16,19 +16,19 @@ use Rattle.checkword.specs.Polynomial.{Generator}
 use Rattle.checkword.specs.Word.{run}
 use Rattle.checkword.proofs.Xor.{xor_assoc, xor_mul}
 use Rattle.checkword.proofs.Bytes.{number_lt, one_number, bytes_of_holds, bytes_take, bytes_drop}
-use Rattle.checkword.proofs.Run.{run_append, run-lt}
-use Rattle.checkword.proofs.Remainder.{Same, same_refl, same-eq, same-both, run-same, same_unique}
+use Rattle.checkword.proofs.Run.{run_append, run_lt}
+use Rattle.checkword.proofs.Remainder.{Same, same_refl, same_eq, same_both, run_same, same_unique}
 use Rattle.checkword.proofs.Rows.{Kept, leaves, picked_leaves, leaves_same, leaves_lt}
 
 module _ (w g : ℕ) (good : Generator w g) where
   turn : (bs : List ℕ) (r v : ℕ) → 8 * length bs ≤ 64 → r < 2 ^ w → Bytes bs → v ≡ bit_xor (r * 2 ^ (8 * length bs) / 2 ^ w) (number bs)
       → bit_xor (bit_xor (r * 2 ^ (8 * length bs) % 2 ^ w) (leaves w g (w + 30) 6 (v / 2 ^ 30))) (leaves w g w 5 (v % 2 ^ 30)) ≡ run w g r bs
   turn bs r v l hr h e =
-      same_unique w g good (same-eq g written refl (same-both g (same-both g (same_refl g y) high_same) low_same)) (run-same w g good bs r hr h)
+      same_unique w g good (same_eq g written refl (same_both g (same_both g (same_refl g y) high_same) low_same)) (run_same w g good bs r hr h)
       (xor_lt w (bit_xor y (leaves w g (w + 30) 6 (v / 2 ^ 30))) (leaves w g w 5 (v % 2 ^ 30))
       (xor_lt w y (leaves w g (w + 30) 6 (v / 2 ^ 30)) (mod-lt up (pow_pos w)) (leaves_lt w g good (w + 30) 6 (v / 2 ^ 30)))
       (leaves_lt w g good w 5 (v % 2 ^ 30)))
-      (run-lt w g good bs r hr h)
+      (run_lt w g good bs r hr h)
     where
       -- the register moved up by the bytes: its top goes out, and the rest stays
       up : ℕ
@@ -43,20 +43,20 @@ module _ (w g : ℕ) (good : Generator w g) where
       top_lt : top < 2 ^ (8 * length bs)
       top_lt = shr_lt (8 * length bs) w (subst (λ (n : ℕ). up < 2 ^ n) (add_comm w (8 * length bs)) (shl_lt w (8 * length bs) hr))
 
-      v-lt : v < 2 ^ (34 + 30)
-      v-lt =
+      v_lt : v < 2 ^ (34 + 30)
+      v_lt =
           subst (λ (x : ℕ). x < 2 ^ 64) (sym e)
           (lt_of_lt_of_le (xor_lt (8 * length bs) top (number bs) top_lt (number_lt bs h)) (pow_mono l))
 
       high_same : Same g (v / 2 ^ 30 * 2 ^ (w + 30)) (leaves w g (w + 30) 6 (v / 2 ^ 30))
       high_same =
-          same-eq g
-          (ap (λ (x : ℕ). x * 2 ^ (w + 30)) (mod-eq_of_lt (lt_of_lt_of_le (shr_lt 34 30 v-lt) (pow_mono {i = 34} {j = 36} (omega arith))))) refl
+          same_eq g
+          (ap (λ (x : ℕ). x * 2 ^ (w + 30)) (mod-eq_of_lt (lt_of_lt_of_le (shr_lt 34 30 v_lt) (pow_mono {i = 34} {j = 36} (omega arith))))) refl
           (leaves_same w g (w + 30) 6 (v / 2 ^ 30))
 
       low_same : Same g (v % 2 ^ 30 * 2 ^ w) (leaves w g w 5 (v % 2 ^ 30))
       low_same =
-          same-eq g (ap (λ (x : ℕ). x * 2 ^ w) (mod-eq_of_lt (mod-lt v (pow_pos 30)))) refl (leaves_same w g w 5 (v % 2 ^ 30))
+          same_eq g (ap (λ (x : ℕ). x * 2 ^ w) (mod-eq_of_lt (mod-lt v (pow_pos 30)))) refl (leaves_same w g w 5 (v % 2 ^ 30))
 
       -- the digits write v
       digits : bit_xor (v / 2 ^ 30 * 2 ^ (w + 30)) (v % 2 ^ 30 * 2 ^ w) ≡ v * 2 ^ w
@@ -109,7 +109,7 @@ module _ (w g : ℕ) (good : Generator w g) where
           let all : Bytes a = bytes_of_holds a small in
           let size : length (take n (drop i a)) ≡ n = length-take n (drop i a) ∙ ap (min n) (length-drop i a) ∙ omega arith in
           aligned (take n (drop i a)) (run w g r (take i a)) x v y (8 * n) (ap (λ (k : ℕ). 8 * k) size) (omega arith)
-          (run-lt w g good (take i a) r hr (bytes_take i a all)) (bytes_take n (drop i a) (bytes_drop i a all)) so_far ev ey
+          (run_lt w g good (take i a) r hr (bytes_take i a all)) (bytes_take n (drop i a) (bytes_drop i a all)) so_far ev ey
           ∙ ap (λ (k : ℕ). k * 2 ^ s) (sym (run_append w g r (take i a) (take n (drop i a))) ∙ ap (run w g r) (sym (take-add i n a)))
 
 -- What a turn of the loop takes, at either width: so many bytes go in from place i on, the register's top with them is v, and its rest, moved up, is y.
@@ -123,8 +123,8 @@ pub record Taken (a : List ℕ) (i x i' y v : ℕ) : Type 0 where
   pub top : v ≡ bit_xor (x * 2 ^ (8 * count) / 2 ^ 64) (number (take count (drop i a)))
 
 module _ (a : List ℕ) (i x i' y v n : ℕ) where
-  pub eight-taken : 8 ≤ length a - i → i' ≡ i + 8 → y ≡ 0 → n ≡ number (take 8 (drop i a)) → v ≡ bit_xor x n → Taken a i x i' y v
-  eight-taken l ei ey en ev =
+  pub eight_taken : 8 ≤ length a - i → i' ≡ i + 8 → y ≡ 0 → n ≡ number (take 8 (drop i a)) → v ≡ bit_xor x n → Taken a i x i' y v
+  eight_taken l ei ey en ev =
       record {
         count = 8;
         some = omega arith;
@@ -140,8 +140,8 @@ module _ (a : List ℕ) (i x i' y v n : ℕ) where
   moved j k e =
       sym (ap (λ (b : ℕ). x * 2 ^ j / 2 ^ b) (sym e ∙ add_comm k j) ∙ sym (shr-shr (x * 2 ^ j) j k) ∙ ap (λ (b : ℕ). b / 2 ^ k) (shl-shr x j))
 
-  pub four-taken : 4 ≤ length a - i → i' ≡ i + 4 → y ≡ x * 2 ^ 32 % 2 ^ 64 → n ≡ number (take 4 (drop i a)) → v ≡ bit_xor (x / 2 ^ 32) n → Taken a i x i' y v
-  four-taken l ei ey en ev =
+  pub four_taken : 4 ≤ length a - i → i' ≡ i + 4 → y ≡ x * 2 ^ 32 % 2 ^ 64 → n ≡ number (take 4 (drop i a)) → v ≡ bit_xor (x / 2 ^ 32) n → Taken a i x i' y v
+  four_taken l ei ey en ev =
       record {
         count = 4;
         some = omega arith;
@@ -152,8 +152,8 @@ module _ (a : List ℕ) (i x i' y v n : ℕ) where
         top = ev ∙ ap₂ bit_xor (moved 32 32 refl) en;
       }
 
-  pub two-taken : 2 ≤ length a - i → i' ≡ i + 2 → y ≡ x * 2 ^ 16 % 2 ^ 64 → n ≡ number (take 2 (drop i a)) → v ≡ bit_xor (x / 2 ^ 48) n → Taken a i x i' y v
-  two-taken l ei ey en ev =
+  pub two_taken : 2 ≤ length a - i → i' ≡ i + 2 → y ≡ x * 2 ^ 16 % 2 ^ 64 → n ≡ number (take 2 (drop i a)) → v ≡ bit_xor (x / 2 ^ 48) n → Taken a i x i' y v
+  two_taken l ei ey en ev =
       record {
         count = 2;
         some = omega arith;
@@ -164,8 +164,8 @@ module _ (a : List ℕ) (i x i' y v n : ℕ) where
         top = ev ∙ ap₂ bit_xor (moved 16 48 refl) en;
       }
 
-  pub one-taken : i < length a → length a - i < 2 → i' ≡ length a → y ≡ x * 2 ^ 8 % 2 ^ 64 → n ≡ get_or a i 0 → v ≡ bit_xor (x / 2 ^ 56) n → Taken a i x i' y v
-  one-taken h l ei ey en ev =
+  pub one_taken : i < length a → length a - i < 2 → i' ≡ length a → y ≡ x * 2 ^ 8 % 2 ^ 64 → n ≡ get_or a i 0 → v ≡ bit_xor (x / 2 ^ 56) n → Taken a i x i' y v
+  one_taken h l ei ey en ev =
       record {
         count = 1;
         some = omega arith;

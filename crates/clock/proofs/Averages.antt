@@ -61,11 +61,11 @@ module _ (base : ℕ) (ps : List Pair) (i s d : ℕ) (e : ℤ) (long : length ps
   sum_back : to_z w64 s ≡ spread_of base (take i ps)
   sum_back = rw so_far (held (spread_of base (take i ps)) (taken_fits base ps i long))
 
-  away-back : to_z w64 (of_z w64 e) ≡ distance_of (difference_of (get_or ps i no_pair)) base
-  away-back = rw (away, here) (held (distance_of (difference_of (get_or ps i no_pair)) base) (record { sfits = omega (arith, distance_small (difference_of (get_or ps i no_pair)) base) }))
+  away_back : to_z w64 (of_z w64 e) ≡ distance_of (difference_of (get_or ps i no_pair)) base
+  away_back = rw (away, here) (held (distance_of (difference_of (get_or ps i no_pair)) base) (record { sfits = omega (arith, distance_small (difference_of (get_or ps i no_pair)) base) }))
 
   pub turned : to_z w64 s +ℤ to_z w64 (of_z w64 e) ≡ spread_of base (take (i + 1) ps)
-  turned = rw (sum_back, away-back) (sym (spread_next base ps i (omega arith)))
+  turned = rw (sum_back, away_back) (sym (spread_next base ps i (omega arith)))
 
 -- after the last turn
 pub ended : (base : ℕ) (ps : List Pair) (i s : ℕ) → length ps ≡ 16 → 16 ≤ i → s ≡ of_z w64 (spread_of base (take i ps)) → to_z w64 s ≡ spread_of base ps
@@ -115,15 +115,15 @@ around_add b (negsuc n) = around_less b n (ltb b (suc n)) refl
 -- ---- the three calls in a row: each passes a signed number on, which its callee reads back from bits
 module _ (ps : List Pair) (base r : ℕ) (s m : ℤ) (long : length ps ≡ 16) (first : base ≡ difference_of (newest_of ps)) (sum : s ≡ spread_of base ps)
     (sixteenth : m ≡ floor16 (to_z w64 (of_z w64 s))) (at_last : r ≡ around (pos base +ℤ to_z w64 (of_z w64 m))) where
-  s-fits : SFits w64 s
-  s-fits = rw sum (spread_fits base ps (omega arith))
+  s_fits : SFits w64 s
+  s_fits = rw sum (spread_fits base ps (omega arith))
 
-  m-is : m ≡ floor16 s
-  m-is = rw (held s s-fits) at sixteenth
+  m_is : m ≡ floor16 s
+  m_is = rw (held s s_fits) at sixteenth
 
-  m-fits : SFits w64 m
-  m-fits = rw m-is (sfits_le (floor_mag s) s-fits)
+  m_fits : SFits w64 m
+  m_fits = rw m_is (sfits_le (floor_mag s) s_fits)
 
-  pub mean-is : r ≡ mean_of ps
+  pub mean_is : r ≡ mean_of ps
   unfolding mean_of
-  mean-is = at_last ∙ rw (held m m-fits, m-is, sum, first)
+  mean_is = at_last ∙ rw (held m m_fits, m_is, sum, first)

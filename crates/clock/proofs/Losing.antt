@@ -50,17 +50,17 @@ module _ (c : Clock) (n : ℕ) (t : LocalTime) (out : is_following c.last n ≡ 
       (lost_by c (failing (standing_tests c.count c.resynchronised t))))
       (saying 5 c))
 
-  heard-out : (r : RefTime) → heard_by c (told r) t ≡ left r
+  heard_out : (r : RefTime) → heard_by c (told r) t ≡ left r
   unfolding heard_by synchronise resynchronise gone_on pair_taken pick
-  heard-out r = rw out
+  heard_out r = rw out
 
-  left-alike : (r s : RefTime) → left r ≡ left s
+  left_alike : (r s : RefTime) → left r ≡ left s
   unfolding kept_by
-  left-alike r s = refl
+  left_alike r s = refl
 
-  left-pairs : (r : RefTime) → (left r).clock.pairs ≡ c.pairs
+  left_pairs : (r : RefTime) → (left r).clock.pairs ≡ c.pairs
   unfolding kept_by in_period forgotten lost_by isolated_by
-  left-pairs r =
+  left_pairs r =
       either (λ (h : Step). h.clock.pairs ≡ c.pairs) (eqb c.state 1) _ _ (either (λ (h : Step). h.clock.pairs ≡ c.pairs) (is_above c.last n) _ _ refl refl)
       (either (λ (h : Step). h.clock.pairs ≡ c.pairs) (eqb c.state 2) _ _
       (either (λ (h : Step). h.clock.pairs ≡ c.pairs) (eqb (failing (standing_tests c.count c.resynchronised t)) 0) _ _
@@ -69,7 +69,7 @@ module _ (c : Clock) (n : ℕ) (t : LocalTime) (out : is_following c.last n ≡ 
 
 pub only_in_sequence : OnlyInSequence
 only_in_sequence c n r s t out =
-    (ap (λ (h : Step). h.clock.pairs) (heard-out c n t out r) ∙ left-pairs c n t out r, heard-out c n t out r ∙ left-alike c n t out r s ∙ sym (heard-out c n t out s))
+    (ap (λ (h : Step). h.clock.pairs) (heard_out c n t out r) ∙ left_pairs c n t out r, heard_out c n t out r ∙ left_alike c n t out r s ∙ sym (heard_out c n t out s))
 
 -- ---- losing it
 
@@ -115,39 +115,39 @@ synchronised_timer c m t e enough = (
 
 -- a message that is judged: what the tests answer decides
 module _ (c : Clock) (m : Message) (t : LocalTime) (j : Judged c m t) where
-  judged-is : heard_by c m t ≡ pick (eqb (failing (resynchronise_tests c m t)) 0) (gone_on c m t (mean_of c.pairs)) (lost_by c (failing (resynchronise_tests c m t)))
+  judged_is : heard_by c m t ≡ pick (eqb (failing (resynchronise_tests c m t)) 0) (gone_on c m t (mean_of c.pairs)) (lost_by c (failing (resynchronise_tests c m t)))
   unfolding resynchronise pick
-  judged-is = by_state c m t j.synchronised ∙ rw (j.standing, j.above)
+  judged_is = by_state c m t j.synchronised ∙ rw (j.standing, j.above)
 
-  judged-lost : (n : ℕ) → (n ≡ 0 → ⊥) → failing (resynchronise_tests c m t) ≡ n → heard_by c m t ≡ lost_by c n
+  judged_lost : (n : ℕ) → (n ≡ 0 → ⊥) → failing (resynchronise_tests c m t) ≡ n → heard_by c m t ≡ lost_by c n
   unfolding pick
-  judged-lost n z e = judged-is ∙ rw (e, ne_eqb n 0 z)
+  judged_lost n z e = judged_is ∙ rw (e, ne_eqb n 0 z)
 
-  judged-on : failing (resynchronise_tests c m t) ≡ 0 → heard_by c m t ≡ gone_on c m t (mean_of c.pairs)
+  judged_on : failing (resynchronise_tests c m t) ≡ 0 → heard_by c m t ≡ gone_on c m t (mean_of c.pairs)
   unfolding pick
-  judged-on e = judged-is ∙ rw e
+  judged_on e = judged_is ∙ rw e
 
   -- where both times are later, the short_term test decides on the pair
-  pair-near : is_following c.last m.number ≡ true → failing (later_tests (pair_by c m) (newest_of c.pairs)) ≡ 0
+  pair_near : is_following c.last m.number ≡ true → failing (later_tests (pair_by c m) (newest_of c.pairs)) ≡ 0
       → failing (tests_of_pair c m (mean_of c.pairs)) ≡ failing (near_tests (pair_by c m) (mean_of c.pairs))
   unfolding pick
-  pair-near f l =
+  pair_near f l =
       rw f
       (sym (all_held (later_than (pair_by c m).reference.0 (newest_of c.pairs).reference.0) (later_than (pair_by c m).local.0 (newest_of c.pairs).local.0)
       (failing (near_tests (pair_by c m) (mean_of c.pairs))) l))
 
-  tests-joined : failing (resynchronise_tests c m t) ≡ pick (eqb (failing (tests_of_pair c m (mean_of c.pairs))) 0) (failing (tests_of_period c t (mean_of c.pairs))) (failing (tests_of_pair c m (mean_of c.pairs)))
-  tests-joined =
+  tests_joined : failing (resynchronise_tests c m t) ≡ pick (eqb (failing (tests_of_pair c m (mean_of c.pairs))) 0) (failing (tests_of_period c t (mean_of c.pairs))) (failing (tests_of_pair c m (mean_of c.pairs)))
+  tests_joined =
       failing_join (tests_of_pair c m (mean_of c.pairs)) (tests_of_period c t (mean_of c.pairs))
       (pair_numbered (is_following c.last m.number) (pair_by c m) (newest_of c.pairs) (mean_of c.pairs))
 
-  pair-first : (n : ℕ) → (n ≡ 0 → ⊥) → failing (tests_of_pair c m (mean_of c.pairs)) ≡ n → failing (resynchronise_tests c m t) ≡ n
+  pair_first : (n : ℕ) → (n ≡ 0 → ⊥) → failing (tests_of_pair c m (mean_of c.pairs)) ≡ n → failing (resynchronise_tests c m t) ≡ n
   unfolding pick
-  pair-first n z e = tests-joined ∙ rw (e, ne_eqb n 0 z)
+  pair_first n z e = tests_joined ∙ rw (e, ne_eqb n 0 z)
 
-  period-next : failing (tests_of_pair c m (mean_of c.pairs)) ≡ 0 → period_over c.period t ≡ true → failing (resynchronise_tests c m t) ≡ failing (period_tests c.period (mean_of c.pairs))
+  period_next : failing (tests_of_pair c m (mean_of c.pairs)) ≡ 0 → period_over c.period t ≡ true → failing (resynchronise_tests c m t) ≡ failing (period_tests c.period (mean_of c.pairs))
   unfolding pick
-  period-next e o = tests-joined ∙ rw (e, o)
+  period_next e o = tests_joined ∙ rw (e, o)
 
 near_held : (p : Pair) (f : ℕ) → apart_by (difference_of p) f ≤ 99 → failing (near_tests p f) ≡ 0
 unfolding pick
@@ -159,8 +159,8 @@ near_failed p f h = rw (le-ltb (apart_by (difference_of p) f) 100 h)
 
 pub short_term : ShortTerm
 short_term c m t j f l = (
-  λ h. pair-near c m t j f l ∙ near_held (pair_by c m) (mean_of c.pairs) h,
-  λ h. judged-lost c m t j 106 (λ e. omega arith) (pair-first c m t j 106 (λ e. omega arith) (pair-near c m t j f l ∙ near_failed (pair_by c m) (mean_of c.pairs) h)),
+  λ h. pair_near c m t j f l ∙ near_held (pair_by c m) (mean_of c.pairs) h,
+  λ h. judged_lost c m t j 106 (λ e. omega arith) (pair_first c m t j 106 (λ e. omega arith) (pair_near c m t j f l ∙ near_failed (pair_by c m) (mean_of c.pairs) h)),
 )
 
 drift_good : (p : Period) (f : ℕ) → 18 ≤ p.messages → apart_by f p.factor ≤ 30 → failing (period_tests p f) ≡ 0
@@ -177,10 +177,10 @@ messages_bad p f h = rw (lt-leb 18 p.messages (omega arith))
 
 pub period_judged : PeriodJudged
 period_judged c m t j e o = (
-  λ h. judged-lost c m t j 107 (λ z. omega arith) (period-next c m t j e o ∙ messages_bad c.period (mean_of c.pairs) h),
+  λ h. judged_lost c m t j 107 (λ z. omega arith) (period_next c m t j e o ∙ messages_bad c.period (mean_of c.pairs) h),
   λ n. (
-    λ h. judged-on c m t j (period-next c m t j e o ∙ drift_good c.period (mean_of c.pairs) n h),
-    λ h. judged-lost c m t j 108 (λ z. omega arith) (period-next c m t j e o ∙ drift_bad c.period (mean_of c.pairs) n h),
+    λ h. judged_on c m t j (period_next c m t j e o ∙ drift_good c.period (mean_of c.pairs) n h),
+    λ h. judged_lost c m t j 108 (λ z. omega arith) (period_next c m t j e o ∙ drift_bad c.period (mean_of c.pairs) n h),
   ),
 )
 
@@ -228,10 +228,10 @@ Full c = c.state ≡ synchronised → c.count ≡ 16
 
 counted_full : (n : ℕ) (b : Bool) → ltb n 16 ≡ b → (pick b (n + 1) 16 < 16 → ⊥) → pick b (n + 1) 16 ≡ 16
 unfolding pick
-counted_full n true e h = absurd-or (n + 1) (omega (arith, ltb-true n 16 e)) h
+counted_full n true e h = absurd_or (n + 1) (omega (arith, ltb-true n 16 e)) h
   where
-    absurd-or : (k : ℕ) → k ≤ 16 → (k < 16 → ⊥) → k ≡ 16
-    absurd-or k l z = omega arith
+    absurd_or : (k : ℕ) → k ≤ 16 → (k < 16 → ⊥) → k ≡ 16
+    absurd_or k l z = omega arith
 counted_full n false e h = refl
 
 -- a clock that is not synchronised becomes it with sixteen pairs alone
@@ -239,46 +239,46 @@ module _ (c : Clock) (m : Message) (t : LocalTime) (e : c.state ≡ 1) where
   other : c.state ≡ 2 → ⊥
   other f = omega arith
 
-  joined-full : (b : Bool) → ltb (kept_by (paired_by c (pair_by c m)) m t).count 16 ≡ b
+  joined_full : (b : Bool) → ltb (kept_by (paired_by c (pair_by c m)) m t).count 16 ≡ b
       → Full (pick b (saying 1 (kept_by (paired_by c (pair_by c m)) m t)) (saying 2 (synchronised_at (kept_by (paired_by c (pair_by c m)) m t) t))).clock
   unfolding pick kept_by paired_by synchronised_at counted_of
-  joined-full true l f = absurd (other f)
-  joined-full false l f = counted_full c.count (ltb c.count 16) refl (λ h. omega (arith, ltb-false (pick (ltb c.count 16) (c.count + 1) 16) 16 l))
+  joined_full true l f = absurd (other f)
+  joined_full false l f = counted_full c.count (ltb c.count 16) refl (λ h. omega (arith, ltb-false (pick (ltb c.count 16) (c.count + 1) 16) 16 l))
 
-  synchronise-full : Full (synchronise c m t).clock
+  synchronise_full : Full (synchronise c m t).clock
   unfolding synchronise joined_by anew_by kept_by begun_anew forgotten
-  synchronise-full =
+  synchronise_full =
       either (λ (h : Step). Full h.clock) (is_above c.last m.number) _ _
       (either (λ (h : Step). Full h.clock) (is_following c.last m.number) _ _
       (either (λ (h : Step). Full h.clock) (eqb (first_failing c (pair_by c m)) 0) _ _
-      (joined-full (ltb (kept_by (paired_by c (pair_by c m)) m t).count 16) refl) (λ f. absurd (other f))) (λ f. absurd (other f))) (λ f. absurd (other f))
+      (joined_full (ltb (kept_by (paired_by c (pair_by c m)) m t).count 16) refl) (λ f. absurd (other f))) (λ f. absurd (other f))) (λ f. absurd (other f))
 
 -- and a synchronised one keeps them, or is lost
 module _ (c : Clock) (m : Message) (t : LocalTime) (full : c.count ≡ 16) where
-  lost-full : (n : ℕ) → Full (lost_by c n).clock
+  lost_full : (n : ℕ) → Full (lost_by c n).clock
   unfolding lost_by isolated_by
-  lost-full n f = absurd (omega arith)
+  lost_full n f = absurd (omega arith)
 
-  taken-full : (pair_taken c m t).clock.count ≡ 16
+  taken_full : (pair_taken c m t).clock.count ≡ 16
   unfolding pair_taken resynchronised_at paired_by counted_of pick
-  taken-full = either (λ (h : Step). h.clock.count ≡ 16) (is_following c.last m.number) _ _ (rw full) full
+  taken_full = either (λ (h : Step). h.clock.count ≡ 16) (is_following c.last m.number) _ _ (rw full) full
 
-  gone-full : (f : ℕ) → Full (gone_on c m t f).clock
+  gone_full : (f : ℕ) → Full (gone_on c m t f).clock
   unfolding gone_on kept_by in_period
-  gone-full f e = taken-full
+  gone_full f e = taken_full
 
-  resynchronise-full : Full (resynchronise c m t).clock
+  resynchronise_full : Full (resynchronise c m t).clock
   unfolding resynchronise
-  resynchronise-full =
+  resynchronise_full =
       either (λ (h : Step). Full h.clock) (eqb (failing (standing_tests c.count c.resynchronised t)) 0) _ _
       (either (λ (h : Step). Full h.clock) (is_above c.last m.number) _ _
-      (either (λ (h : Step). Full h.clock) (eqb (failing (resynchronise_tests c m t)) 0) _ _ (gone-full (mean_of c.pairs)) (lost-full (failing (resynchronise_tests c m t)))) (λ f. full))
-      (lost-full (failing (standing_tests c.count c.resynchronised t)))
+      (either (λ (h : Step). Full h.clock) (eqb (failing (resynchronise_tests c m t)) 0) _ _ (gone_full (mean_of c.pairs)) (lost_full (failing (resynchronise_tests c m t)))) (λ f. full))
+      (lost_full (failing (standing_tests c.count c.resynchronised t)))
 
 heard_full : (c : Clock) (m : Message) (t : LocalTime) (u v : Bool) → eqb c.state 1 ≡ u → eqb c.state 2 ≡ v → Full c → Full (pick u (synchronise c m t) (pick v (resynchronise c m t) (saying 5 c))).clock
 unfolding pick
-heard_full c m t true v e f full = synchronise-full c m t (eqb-true c.state 1 e)
-heard_full c m t false true e f full = resynchronise-full c m t (full (eqb-true c.state 2 f))
+heard_full c m t true v e f full = synchronise_full c m t (eqb-true c.state 1 e)
+heard_full c m t false true e f full = resynchronise_full c m t (full (eqb-true c.state 2 f))
 heard_full c m t false false e f full = full
 
 after_full : (c : Clock) (xs : List (Message × LocalTime)) → Full c → Full (after c xs)
@@ -287,7 +287,7 @@ after_full c [] full = full
 after_full c (x ∷ xs) full = after_full (heard_by c x.0 x.1).clock xs (heard_full c x.0 x.1 (eqb c.state 1) (eqb c.state 2) refl refl full)
 
 pub sixteen_when_synchronised : SixteenWhenSynchronised
-sixteen_when_synchronised xs = after_full new_clock xs new-full
+sixteen_when_synchronised xs = after_full new_clock xs new_full
   where
-    new-full : Full new_clock
-    new-full f = absurd (new_unsynchronised f)
+    new_full : Full new_clock
+    new_full f = absurd (new_unsynchronised f)

@@ -78,41 +78,41 @@ factor_add j k b w lk =
     (onward_law j b) (minus_law (onward j b) k lk) (onward_law w (moved_factor j k b)) (onward_law w b) (onward_law j (onward w b)) (minus_law (onward j (onward w b)) k lk)
 
 module _ (j k : ℕ) (lk : k < 2 ^ 32) where
-  distance-factor : (a b : ℕ) → b < 2 ^ 32 → distance_of (moved_factor j k a) (moved_factor j k b) ≡ distance_of a b
+  distance_factor : (a b : ℕ) → b < 2 ^ 32 → distance_of (moved_factor j k a) (moved_factor j k b) ≡ distance_of a b
   unfolding distance_of
-  distance-factor a b lb = rw (factor_minus j k a b lk lb)
+  distance_factor a b lb = rw (factor_minus j k a b lk lb)
 
   -- ---- the mean
-  difference-of : (p : Pair) → Timed p → difference_of (moved_pair j k p) ≡ moved_factor j k (difference_of p)
+  difference_of_holds : (p : Pair) → Timed p → difference_of (moved_pair j k p) ≡ moved_factor j k (difference_of p)
   unfolding difference_of
-  difference-of p i = difference_moved j k p.reference.0 p.local.0 lk i.1
+  difference_of_holds p i = difference_moved j k p.reference.0 p.local.0 lk i.1
 
   difference_below : (p : Pair) → difference_of p < 2 ^ 32
   unfolding difference_of
   difference_below p = minus_small p.reference.0 p.local.0
 
-  spread-moved : (base : ℕ) (ps : List Pair) → base < 2 ^ 32 → Every Timed ps → spread_of (moved_factor j k base) (map (moved_pair j k) ps) ≡ spread_of base ps
+  spread_moved : (base : ℕ) (ps : List Pair) → base < 2 ^ 32 → Every Timed ps → spread_of (moved_factor j k base) (map (moved_pair j k) ps) ≡ spread_of base ps
   unfolding spread_of
-  spread-moved base [] l i = refl
-  spread-moved base (p ∷ ps) l i = rw (difference-of p i.0, distance-factor (difference_of p) base l, spread-moved base ps l i.1)
+  spread_moved base [] l i = refl
+  spread_moved base (p ∷ ps) l i = rw (difference_of_holds p i.0, distance_factor (difference_of p) base l, spread_moved base ps l i.1)
 
-  around-moved : (b : ℕ) (z : ℤ) → around (pos (moved_factor j k b) +ℤ z) ≡ moved_factor j k (around (pos b +ℤ z))
-  around-moved b z =
+  around_moved : (b : ℕ) (z : ℤ) → around (pos (moved_factor j k b) +ℤ z) ≡ moved_factor j k (around (pos b +ℤ z))
+  around_moved b z =
       sym (around_add (moved_factor j k b) z) ∙ factor_add j k b (around z) lk ∙ ap (moved_factor j k) (around_add b z)
 
-  newest-moved : (ps : List Pair) → length ps ≡ 16 → newest_of (map (moved_pair j k) ps) ≡ moved_pair j k (newest_of ps)
-  newest-moved [] long = absurd (omega arith)
-  newest-moved (p ∷ ps) long = refl
+  newest_moved : (ps : List Pair) → length ps ≡ 16 → newest_of (map (moved_pair j k) ps) ≡ moved_pair j k (newest_of ps)
+  newest_moved [] long = absurd (omega arith)
+  newest_moved (p ∷ ps) long = refl
 
-  newest-timed : (ps : List Pair) → length ps ≡ 16 → Every Timed ps → Timed (newest_of ps)
-  newest-timed [] long i = absurd (omega arith)
-  newest-timed (p ∷ ps) long i = i.0
+  newest_timed : (ps : List Pair) → length ps ≡ 16 → Every Timed ps → Timed (newest_of ps)
+  newest_timed [] long i = absurd (omega arith)
+  newest_timed (p ∷ ps) long i = i.0
 
-  mean-moved : (ps : List Pair) → length ps ≡ 16 → Every Timed ps → mean_of (map (moved_pair j k) ps) ≡ moved_factor j k (mean_of ps)
+  mean_moved : (ps : List Pair) → length ps ≡ 16 → Every Timed ps → mean_of (map (moved_pair j k) ps) ≡ moved_factor j k (mean_of ps)
   unfolding mean_of
-  mean-moved ps long i =
-      rw (newest-moved ps long, difference-of (newest_of ps) (newest-timed ps long i), spread-moved (difference_of (newest_of ps)) ps (difference_below (newest_of ps)) i)
-      (around-moved (difference_of (newest_of ps)) (floor16 (spread_of (difference_of (newest_of ps)) ps)))
+  mean_moved ps long i =
+      rw (newest_moved ps long, difference_of_holds (newest_of ps) (newest_timed ps long i), spread_moved (difference_of (newest_of ps)) ps (difference_below (newest_of ps)) i)
+      (around_moved (difference_of (newest_of ps)) (floor16 (spread_of (difference_of (newest_of ps)) ps)))
 
 -- ---- reference times alone
 
@@ -131,7 +131,7 @@ map_alike j [] i = refl
 map_alike j (p ∷ ps) i = rw (pair_alike j p i.0, map_alike j ps i.1)
 
 pub constant_added : ConstantAdded
-constant_added ps j long i = rw (map_alike j ps i) (mean-moved j 0 (omega arith) ps long i ∙ back_none j (mean_of ps))
+constant_added ps j long i = rw (map_alike j ps i) (mean_moved j 0 (omega arith) ps long i ∙ back_none j (mean_of ps))
 
 -- ---- lists
 
@@ -156,35 +156,35 @@ twice_onward k b = omega arith
 
 -- ---- the tests, and what a message leaves
 module _ (j k : ℕ) (lk : k < 2 ^ 32) where
-  same-elapsed : (a b : LocalTime) → a.0 < 2 ^ 32 → elapsed (moved_local k a) (moved_local k b) ≡ elapsed a b
+  same_elapsed : (a b : LocalTime) → a.0 < 2 ^ 32 → elapsed (moved_local k a) (moved_local k b) ≡ elapsed a b
   unfolding elapsed
-  same-elapsed a b l = same_minus k b.0 a.0 l
+  same_elapsed a b l = same_minus k b.0 a.0 l
 
-  same-later : (i a b : ℕ) → b < 2 ^ 32 → later_than (onward i a) (onward i b) ≡ later_than a b
+  same_later : (i a b : ℕ) → b < 2 ^ 32 → later_than (onward i a) (onward i b) ≡ later_than a b
   unfolding later_than distance_of
-  same-later i a b l = rw (same_minus i a b l)
+  same_later i a b l = rw (same_minus i a b l)
 
-  same-apart : (a b : ℕ) → b < 2 ^ 32 → apart_by (moved_factor j k a) (moved_factor j k b) ≡ apart_by a b
+  same_apart : (a b : ℕ) → b < 2 ^ 32 → apart_by (moved_factor j k a) (moved_factor j k b) ≡ apart_by a b
   unfolding apart_by
-  same-apart a b l = rw (distance-factor j k lk a b l)
+  same_apart a b l = rw (distance_factor j k lk a b l)
 
-  later-moved : (p q : Pair) → Timed q → failing (later_tests (moved_pair j k p) (moved_pair j k q)) ≡ failing (later_tests p q)
-  later-moved p q i = rw (same-later j p.reference.0 q.reference.0 i.0, same-later k p.local.0 q.local.0 i.1)
+  later_moved : (p q : Pair) → Timed q → failing (later_tests (moved_pair j k p) (moved_pair j k q)) ≡ failing (later_tests p q)
+  later_moved p q i = rw (same_later j p.reference.0 q.reference.0 i.0, same_later k p.local.0 q.local.0 i.1)
 
-  pair-tests-moved : (p q : Pair) (f : ℕ) → Timed p → Timed q → f < 2 ^ 32
+  pair_tests_moved : (p q : Pair) (f : ℕ) → Timed p → Timed q → f < 2 ^ 32
       → failing (pair_tests (moved_pair j k p) (moved_pair j k q) (moved_factor j k f)) ≡ failing (pair_tests p q f)
-  pair-tests-moved p q f i l b =
-      rw (same-later j p.reference.0 q.reference.0 l.0, same-later k p.local.0 q.local.0 l.1, difference-of j k lk p i, same-apart (difference_of p) f b)
+  pair_tests_moved p q f i l b =
+      rw (same_later j p.reference.0 q.reference.0 l.0, same_later k p.local.0 q.local.0 l.1, difference_of_holds j k lk p i, same_apart (difference_of p) f b)
 
-  period-tests-moved : (p : Period) (f : ℕ) → p.factor < 2 ^ 32 → failing (period_tests (moved_period j k p) (moved_factor j k f)) ≡ failing (period_tests p f)
-  period-tests-moved p f l = rw (same-apart f p.factor l)
+  period_tests_moved : (p : Period) (f : ℕ) → p.factor < 2 ^ 32 → failing (period_tests (moved_period j k p) (moved_factor j k f)) ≡ failing (period_tests p f)
+  period_tests_moved p f l = rw (same_apart f p.factor l)
 
-  over-moved : (p : Period) (t : LocalTime) → p.begun.0 < 2 ^ 32 → period_over (moved_period j k p) (moved_local k t) ≡ period_over p t
+  over_moved : (p : Period) (t : LocalTime) → p.begun.0 < 2 ^ 32 → period_over (moved_period j k p) (moved_local k t) ≡ period_over p t
   unfolding period_over
-  over-moved p t l = rw (same-elapsed p.begun t l)
+  over_moved p t l = rw (same_elapsed p.begun t l)
 
-  standing-moved : (n : ℕ) (a t : LocalTime) → a.0 < 2 ^ 32 → failing (standing_tests n (moved_local k a) (moved_local k t)) ≡ failing (standing_tests n a t)
-  standing-moved n a t l = rw (same-elapsed a t l)
+  standing_moved : (n : ℕ) (a t : LocalTime) → a.0 < 2 ^ 32 → failing (standing_tests n (moved_local k a) (moved_local k t)) ≡ failing (standing_tests n a t)
+  standing_moved n a t l = rw (same_elapsed a t l)
 
   abbrev on : Clock → Clock
   on c = moved_clock j k c
@@ -192,47 +192,47 @@ module _ (j k : ℕ) (lk : k < 2 ^ 32) where
   abbrev onStep : Step → Step
   onStep s = moved_step j k s
 
-  kept-moved : (c : Clock) (m : Message) (t : LocalTime) → kept_by (on c) (moved_message j m) (moved_local k t) ≡ on (kept_by c m t)
+  kept_moved : (c : Clock) (m : Message) (t : LocalTime) → kept_by (on c) (moved_message j m) (moved_local k t) ≡ on (kept_by c m t)
   unfolding kept_by
-  kept-moved c m t = refl
+  kept_moved c m t = refl
 
-  anew-moved : (c : Clock) (m : Message) (t : LocalTime) (n : ℕ) → anew_by (on c) (moved_message j m) (moved_local k t) n ≡ onStep (anew_by c m t n)
+  anew_moved : (c : Clock) (m : Message) (t : LocalTime) (n : ℕ) → anew_by (on c) (moved_message j m) (moved_local k t) n ≡ onStep (anew_by c m t n)
   unfolding anew_by kept_by begun_anew
-  anew-moved c m t n = refl
+  anew_moved c m t n = refl
 
-  forgotten-moved : (c : Clock) → forgotten (on c) ≡ on (forgotten c)
+  forgotten_moved : (c : Clock) → forgotten (on c) ≡ on (forgotten c)
   unfolding forgotten
-  forgotten-moved c = refl
+  forgotten_moved c = refl
 
-  lost-moved : (c : Clock) (n : ℕ) → lost_by (on c) n ≡ onStep (lost_by c n)
+  lost_moved : (c : Clock) (n : ℕ) → lost_by (on c) n ≡ onStep (lost_by c n)
   unfolding lost_by isolated_by
-  lost-moved c n = refl
+  lost_moved c n = refl
 
-  pair-by-moved : (c : Clock) (m : Message) → pair_by (on c) (moved_message j m) ≡ moved_pair j k (pair_by c m)
+  pair_by_moved : (c : Clock) (m : Message) → pair_by (on c) (moved_message j m) ≡ moved_pair j k (pair_by c m)
   unfolding pair_by
-  pair-by-moved c m = refl
+  pair_by_moved c m = refl
 
-  paired-moved : (c : Clock) (p : Pair) → paired_by (on c) (moved_pair j k p) ≡ on (paired_by c p)
+  paired_moved : (c : Clock) (p : Pair) → paired_by (on c) (moved_pair j k p) ≡ on (paired_by c p)
   unfolding paired_by fronted
-  paired-moved c p = ap (λ (ps : List Pair). record { pairs = ps; count = counted_of c.count; state = c.state; last = (on c).last; resynchronised = (on c).resynchronised; period = (on c).period }) (map_take (moved_pair j k) 16 (p ∷ c.pairs))
+  paired_moved c p = ap (λ (ps : List Pair). record { pairs = ps; count = counted_of c.count; state = c.state; last = (on c).last; resynchronised = (on c).resynchronised; period = (on c).period }) (map_take (moved_pair j k) 16 (p ∷ c.pairs))
 
-  period-moved : (p : Period) (over : Bool) (f : ℕ) → period_after (moved_period j k p) over (moved_factor j k f) ≡ moved_period j k (period_after p over f)
+  period_moved : (p : Period) (over : Bool) (f : ℕ) → period_after (moved_period j k p) over (moved_factor j k f) ≡ moved_period j k (period_after p over f)
   unfolding period_after next_period counting_period
-  period-moved p over f =
+  period_moved p over f =
       under (moved_period j k) over _ _ _ _ (ap (λ (n : ℕ). record { begun = record { 0 = n }; factor = moved_factor j k f; messages = 1 }) (twice_onward k p.begun.0)) refl
 
-  in-period-moved : (c : Clock) (over : Bool) (f : ℕ) → in_period (on c) over (moved_factor j k f) ≡ on (in_period c over f)
+  in_period_moved : (c : Clock) (over : Bool) (f : ℕ) → in_period (on c) over (moved_factor j k f) ≡ on (in_period c over f)
   unfolding in_period
-  in-period-moved c over f = ap (λ (p : Period). record { pairs = (on c).pairs; count = c.count; state = c.state; last = (on c).last; resynchronised = (on c).resynchronised; period = p }) (period-moved c.period over f)
+  in_period_moved c over f = ap (λ (p : Period). record { pairs = (on c).pairs; count = c.count; state = c.state; last = (on c).last; resynchronised = (on c).resynchronised; period = p }) (period_moved c.period over f)
 
-  resynchronised-moved : (c : Clock) (t : LocalTime) → resynchronised_at (on c) (moved_local k t) ≡ on (resynchronised_at c t)
+  resynchronised_moved : (c : Clock) (t : LocalTime) → resynchronised_at (on c) (moved_local k t) ≡ on (resynchronised_at c t)
   unfolding resynchronised_at
-  resynchronised-moved c t = refl
+  resynchronised_moved c t = refl
 
-  synchronised-moved : (c : Clock) (t : LocalTime) → length c.pairs ≡ 16 → Every Timed c.pairs → synchronised_at (on c) (moved_local k t) ≡ on (synchronised_at c t)
+  synchronised_moved : (c : Clock) (t : LocalTime) → length c.pairs ≡ 16 → Every Timed c.pairs → synchronised_at (on c) (moved_local k t) ≡ on (synchronised_at c t)
   unfolding synchronised_at
-  synchronised-moved c t long i =
-      ap (λ (f : ℕ). record { pairs = (on c).pairs; count = c.count; state = 2; last = (on c).last; resynchronised = moved_local k t; period = record { begun = moved_local k t; factor = f; messages = 1 } }) (mean-moved j k lk c.pairs long i)
+  synchronised_moved c t long i =
+      ap (λ (f : ℕ). record { pairs = (on c).pairs; count = c.count; state = 2; last = (on c).last; resynchronised = moved_local k t; period = record { begun = moved_local k t; factor = f; messages = 1 } }) (mean_moved j k lk c.pairs long i)
 
 -- ---- a message to a clock in range
 module _ (j k : ℕ) (lk : k < 2 ^ 32) (c : Clock) (m : Message) (t : LocalTime) (i : Ranged c) (lm : m.reference.0 < 2 ^ 32) where
@@ -254,164 +254,164 @@ module _ (j k : ℕ) (lk : k < 2 ^ 32) (c : Clock) (m : Message) (t : LocalTime)
   abbrev moving : Step → Step
   moving s = moved_step j k s
 
-  mean-is : mean_of c'.pairs ≡ moved_factor j k factor
-  mean-is = mean-moved j k lk c.pairs i.sixteen i.pairs
+  mean_is : mean_of c'.pairs ≡ moved_factor j k factor
+  mean_is = mean_moved j k lk c.pairs i.sixteen i.pairs
 
-  mean-below : factor < 2 ^ 32
+  mean_below : factor < 2 ^ 32
   unfolding mean_of
-  mean-below = around_small (pos (difference_of (newest_of c.pairs)) +ℤ floor16 (spread_of (difference_of (newest_of c.pairs)) c.pairs))
+  mean_below = around_small (pos (difference_of (newest_of c.pairs)) +ℤ floor16 (spread_of (difference_of (newest_of c.pairs)) c.pairs))
 
-  newest-is : newest_of c'.pairs ≡ moved_pair j k (newest_of c.pairs)
-  newest-is = newest-moved j k lk c.pairs i.sixteen
+  newest_is : newest_of c'.pairs ≡ moved_pair j k (newest_of c.pairs)
+  newest_is = newest_moved j k lk c.pairs i.sixteen
 
-  newest-in : Timed (newest_of c.pairs)
-  newest-in = newest-timed j k lk c.pairs i.sixteen i.pairs
+  newest_in : Timed (newest_of c.pairs)
+  newest_in = newest_timed j k lk c.pairs i.sixteen i.pairs
 
   new_in : Timed new
   unfolding pair_by
   new_in = (lm, i.last)
 
   -- the sixteen pairs with the new one
-  fronted-long : length (fronted new c.pairs) ≡ 16
+  fronted_long : length (fronted new c.pairs) ≡ 16
   unfolding fronted
-  fronted-long = let e = i.sixteen in simp length-take (omega arith)
+  fronted_long = let e = i.sixteen in simp length-take (omega arith)
 
-  fronted-in : Every Timed (fronted new c.pairs)
+  fronted_in : Every Timed (fronted new c.pairs)
   unfolding fronted
-  fronted-in = every_take Timed 16 (new ∷ c.pairs) (new_in, i.pairs)
+  fronted_in = every_take Timed 16 (new ∷ c.pairs) (new_in, i.pairs)
 
-  first-is : first_failing c' (moved_pair j k new) ≡ first_failing c new
+  first_is : first_failing c' (moved_pair j k new) ≡ first_failing c new
   unfolding first_failing
-  first-is = rw (newest-is, later-moved j k lk new (newest_of c.pairs) newest-in)
+  first_is = rw (newest_is, later_moved j k lk new (newest_of c.pairs) newest_in)
 
-  kept-long : length (kept_by (paired_by c new) m t).pairs ≡ 16
+  kept_long : length (kept_by (paired_by c new) m t).pairs ≡ 16
   unfolding kept_by paired_by
-  kept-long = fronted-long
+  kept_long = fronted_long
 
   kept_in : Every Timed (kept_by (paired_by c new) m t).pairs
   unfolding kept_by paired_by
-  kept_in = fronted-in
+  kept_in = fronted_in
 
   joined_is : joined_by c' (moved_pair j k new) m' t' ≡ moving (joined_by c new m t)
   unfolding joined_by
   joined_is =
-      rw (paired-moved j k lk c new, kept-moved j k lk (paired_by c new) m t)
+      rw (paired_moved j k lk c new, kept_moved j k lk (paired_by c new) m t)
       (under moving (ltb (kept_by (paired_by c new) m t).count 16) _ _ _ _ refl
-      (ap (saying 2) (synchronised-moved j k lk (kept_by (paired_by c new) m t) t kept-long kept_in)))
+      (ap (saying 2) (synchronised_moved j k lk (kept_by (paired_by c new) m t) t kept_long kept_in)))
 
-  above-is : is_above c'.last m.number ≡ is_above c.last m.number
+  above_is : is_above c'.last m.number ≡ is_above c.last m.number
   unfolding is_above
-  above-is = refl
+  above_is = refl
 
-  following-is : is_following c'.last m.number ≡ is_following c.last m.number
+  following_is : is_following c'.last m.number ≡ is_following c.last m.number
   unfolding is_following
-  following-is = refl
+  following_is = refl
 
-  synchronise-is : synchronise c' m' t' ≡ moving (synchronise c m t)
+  synchronise_is : synchronise c' m' t' ≡ moving (synchronise c m t)
   unfolding synchronise
-  synchronise-is =
-      rw (above-is, following-is, pair-by-moved j k lk c m, first-is, forgotten-moved j k lk c, kept-moved j k lk c m t)
+  synchronise_is =
+      rw (above_is, following_is, pair_by_moved j k lk c m, first_is, forgotten_moved j k lk c, kept_moved j k lk c m t)
       (under moving (is_above c.last m.number) _ _ _ _
       (under moving (is_following c.last m.number) _ _ _ _
-      (under moving (eqb (first_failing c new) 0) _ _ _ _ joined_is (anew-moved j k lk c m t (first_failing c new))) refl) refl)
+      (under moving (eqb (first_failing c new) 0) _ _ _ _ joined_is (anew_moved j k lk c m t (first_failing c new))) refl) refl)
 
-  pair-tests-is : failing (tests_of_pair c' m' (moved_factor j k factor)) ≡ failing (tests_of_pair c m factor)
-  pair-tests-is =
+  pair_tests_is : failing (tests_of_pair c' m' (moved_factor j k factor)) ≡ failing (tests_of_pair c m factor)
+  pair_tests_is =
       sym (asked_or_none (is_following c'.last m.number) (pair_tests (pair_by c' m') (newest_of c'.pairs) (moved_factor j k factor)))
-      ∙ rw (following-is, pair-by-moved j k lk c m, newest-is, pair-tests-moved j k lk new (newest_of c.pairs) factor new_in newest-in mean-below)
+      ∙ rw (following_is, pair_by_moved j k lk c m, newest_is, pair_tests_moved j k lk new (newest_of c.pairs) factor new_in newest_in mean_below)
       (asked_or_none (is_following c.last m.number) (pair_tests new (newest_of c.pairs) factor))
 
-  period-tests-is : failing (tests_of_period c' t' (moved_factor j k factor)) ≡ failing (tests_of_period c t factor)
-  period-tests-is =
+  period_tests_is : failing (tests_of_period c' t' (moved_factor j k factor)) ≡ failing (tests_of_period c t factor)
+  period_tests_is =
       sym (asked_or_none (period_over c'.period t') (period_tests c'.period (moved_factor j k factor)))
-      ∙ rw (over-moved j k lk c.period t i.begun, period-tests-moved j k lk c.period factor i.factor)
+      ∙ rw (over_moved j k lk c.period t i.begun, period_tests_moved j k lk c.period factor i.factor)
       (asked_or_none (period_over c.period t) (period_tests c.period factor))
 
-  failing-is : failing (tests_of_pair c' m' (moved_factor j k factor) ++ tests_of_period c' t' (moved_factor j k factor)) ≡ failing (resynchronise_tests c m t)
-  failing-is =
+  failing_is : failing (tests_of_pair c' m' (moved_factor j k factor) ++ tests_of_period c' t' (moved_factor j k factor)) ≡ failing (resynchronise_tests c m t)
+  failing_is =
       failing_join (tests_of_pair c' m' (moved_factor j k factor)) (tests_of_period c' t' (moved_factor j k factor))
       (pair_numbered (is_following c'.last m.number) (pair_by c' m') (newest_of c'.pairs) (moved_factor j k factor))
-      ∙ rw (pair-tests-is, period-tests-is)
+      ∙ rw (pair_tests_is, period_tests_is)
       (sym (failing_join (tests_of_pair c m factor) (tests_of_period c t factor) (pair_numbered (is_following c.last m.number) new (newest_of c.pairs) factor)))
 
-  resynchronised-is : resynchronised_at (paired_by c' (moved_pair j k new)) t' ≡ moved_clock j k (resynchronised_at (paired_by c new) t)
-  resynchronised-is = rw (paired-moved j k lk c new) again
+  resynchronised_is : resynchronised_at (paired_by c' (moved_pair j k new)) t' ≡ moved_clock j k (resynchronised_at (paired_by c new) t)
+  resynchronised_is = rw (paired_moved j k lk c new) again
     where
       again : resynchronised_at (moved_clock j k (paired_by c new)) t' ≡ moved_clock j k (resynchronised_at (paired_by c new) t)
-      again = resynchronised-moved j k lk (paired_by c new) t
+      again = resynchronised_moved j k lk (paired_by c new) t
 
   taken_is : pair_taken c' m' t' ≡ moving (pair_taken c m t)
   unfolding pair_taken
   taken_is =
-      rw (following-is, pair-by-moved j k lk c m)
-      (under moving (is_following c.last m.number) _ _ _ _ (ap (saying 3) resynchronised-is) refl)
+      rw (following_is, pair_by_moved j k lk c m)
+      (under moving (is_following c.last m.number) _ _ _ _ (ap (saying 3) resynchronised_is) refl)
 
   gone_on_is : gone_on c' m' t' (moved_factor j k factor) ≡ moving (gone_on c m t factor)
   unfolding gone_on
   gone_on_is =
-      rw (taken_is, over-moved j k lk c.period t i.begun, in-period-moved j k lk (pair_taken c m t).clock (period_over c.period t) factor)
-      (ap (saying (pair_taken c m t).event) (kept-moved j k lk (in_period (pair_taken c m t).clock (period_over c.period t) factor) m t))
+      rw (taken_is, over_moved j k lk c.period t i.begun, in_period_moved j k lk (pair_taken c m t).clock (period_over c.period t) factor)
+      (ap (saying (pair_taken c m t).event) (kept_moved j k lk (in_period (pair_taken c m t).clock (period_over c.period t) factor) m t))
 
-  resynchronise-is : resynchronise c' m' t' ≡ moving (resynchronise c m t)
+  resynchronise_is : resynchronise c' m' t' ≡ moving (resynchronise c m t)
   unfolding resynchronise
-  resynchronise-is =
-      rw (standing-moved j k lk c.count c.resynchronised t i.resynchronised, above-is, mean-is, failing-is)
+  resynchronise_is =
+      rw (standing_moved j k lk c.count c.resynchronised t i.resynchronised, above_is, mean_is, failing_is)
       (under moving (eqb (failing (standing_tests c.count c.resynchronised t)) 0) _ _ _ _
       (under moving (is_above c.last m.number) _ _ _ _
-      (under moving (eqb (failing (resynchronise_tests c m t)) 0) _ _ _ _ gone_on_is (lost-moved j k lk c (failing (resynchronise_tests c m t)))) refl)
-      (lost-moved j k lk c (failing (standing_tests c.count c.resynchronised t))))
+      (under moving (eqb (failing (resynchronise_tests c m t)) 0) _ _ _ _ gone_on_is (lost_moved j k lk c (failing (resynchronise_tests c m t)))) refl)
+      (lost_moved j k lk c (failing (standing_tests c.count c.resynchronised t))))
 
-  heard-is : heard_by c' m' t' ≡ moving (heard_by c m t)
+  heard_is : heard_by c' m' t' ≡ moving (heard_by c m t)
   unfolding heard_by
-  heard-is = under moving (eqb c.state 1) _ _ _ _ synchronise-is (under moving (eqb c.state 2) _ _ _ _ resynchronise-is refl)
+  heard_is = under moving (eqb c.state 1) _ _ _ _ synchronise_is (under moving (eqb c.state 2) _ _ _ _ resynchronise_is refl)
 
 pub wrap_unseen : WrapUnseen
-wrap_unseen j k lk c m t i lm = heard-is j k lk c m t i lm
+wrap_unseen j k lk c m t i lm = heard_is j k lk c m t i lm
 
 -- ---- a run of messages: what a message leaves is in range again
 module _ (c : Clock) (m : Message) (t : LocalTime) (i : Ranged c) (lm : m.reference.0 < 2 ^ 32) (lt : t.0 < 2 ^ 32) where
   abbrev Fits : Step → Type 0
   Fits s = Ranged s.clock
 
-  pub kept-fits : (d : Clock) → Ranged d → Ranged (kept_by d m t)
+  pub kept_fits : (d : Clock) → Ranged d → Ranged (kept_by d m t)
   unfolding kept_by
-  kept-fits d r = record { sixteen = r.sixteen; pairs = r.pairs; last = lt; resynchronised = r.resynchronised; begun = r.begun; factor = r.factor }
+  kept_fits d r = record { sixteen = r.sixteen; pairs = r.pairs; last = lt; resynchronised = r.resynchronised; begun = r.begun; factor = r.factor }
 
-  pub forgotten-fits : Ranged (forgotten c)
+  pub forgotten_fits : Ranged (forgotten c)
   unfolding forgotten
-  forgotten-fits = record { sixteen = i.sixteen; pairs = i.pairs; last = i.last; resynchronised = i.resynchronised; begun = i.begun; factor = i.factor }
+  forgotten_fits = record { sixteen = i.sixteen; pairs = i.pairs; last = i.last; resynchronised = i.resynchronised; begun = i.begun; factor = i.factor }
 
-  pub anew-fits : (n : ℕ) → Fits (anew_by c m t n)
+  pub anew_fits : (n : ℕ) → Fits (anew_by c m t n)
   unfolding anew_by kept_by begun_anew
-  anew-fits n = record { sixteen = i.sixteen; pairs = i.pairs; last = lt; resynchronised = i.resynchronised; begun = i.begun; factor = i.factor }
+  anew_fits n = record { sixteen = i.sixteen; pairs = i.pairs; last = lt; resynchronised = i.resynchronised; begun = i.begun; factor = i.factor }
 
-  lost-fits : (n : ℕ) → Fits (lost_by c n)
+  lost_fits : (n : ℕ) → Fits (lost_by c n)
   unfolding lost_by isolated_by
-  lost-fits n = record { sixteen = i.sixteen; pairs = i.pairs; last = i.last; resynchronised = i.resynchronised; begun = i.begun; factor = i.factor }
+  lost_fits n = record { sixteen = i.sixteen; pairs = i.pairs; last = i.last; resynchronised = i.resynchronised; begun = i.begun; factor = i.factor }
 
-  pub paired-fits : Ranged (paired_by c (pair_by c m))
+  pub paired_fits : Ranged (paired_by c (pair_by c m))
   unfolding paired_by
-  paired-fits =
+  paired_fits =
       record {
-        sixteen = fronted-long 0 0 (omega arith) c m t i lm;
-        pairs = fronted-in 0 0 (omega arith) c m t i lm;
+        sixteen = fronted_long 0 0 (omega arith) c m t i lm;
+        pairs = fronted_in 0 0 (omega arith) c m t i lm;
         last = i.last;
         resynchronised = i.resynchronised;
         begun = i.begun;
         factor = i.factor;
       }
 
-  pub synchronised-fits : (d : Clock) → Ranged d → Ranged (synchronised_at d t)
+  pub synchronised_fits : (d : Clock) → Ranged d → Ranged (synchronised_at d t)
   unfolding synchronised_at
-  synchronised-fits d r = record { sixteen = r.sixteen; pairs = r.pairs; last = r.last; resynchronised = lt; begun = lt; factor = mean-below 0 0 (omega arith) d m t r lm }
+  synchronised_fits d r = record { sixteen = r.sixteen; pairs = r.pairs; last = r.last; resynchronised = lt; begun = lt; factor = mean_below 0 0 (omega arith) d m t r lm }
 
-  resynchronised-fits : (d : Clock) → Ranged d → Ranged (resynchronised_at d t)
+  resynchronised_fits : (d : Clock) → Ranged d → Ranged (resynchronised_at d t)
   unfolding resynchronised_at
-  resynchronised-fits d r = record { sixteen = r.sixteen; pairs = r.pairs; last = r.last; resynchronised = lt; begun = r.begun; factor = r.factor }
+  resynchronised_fits d r = record { sixteen = r.sixteen; pairs = r.pairs; last = r.last; resynchronised = lt; begun = r.begun; factor = r.factor }
 
-  in-period-fits : (d : Clock) (over : Bool) (f : ℕ) → Ranged d → f < 2 ^ 32 → Ranged (in_period d over f)
+  in_period_fits : (d : Clock) (over : Bool) (f : ℕ) → Ranged d → f < 2 ^ 32 → Ranged (in_period d over f)
   unfolding in_period period_after next_period counting_period
-  in-period-fits d over f r l =
+  in_period_fits d over f r l =
       record {
         sixteen = r.sixteen;
         pairs = r.pairs;
@@ -421,51 +421,51 @@ module _ (c : Clock) (m : Message) (t : LocalTime) (i : Ranged c) (lm : m.refere
         factor = either (λ (p : Period). p.factor < 2 ^ 32) over _ _ l r.factor;
       }
 
-  pub joined-fits : Fits (joined_by c (pair_by c m) m t)
+  pub joined_fits : Fits (joined_by c (pair_by c m) m t)
   unfolding joined_by
-  joined-fits =
-      either Fits (ltb (kept_by (paired_by c (pair_by c m)) m t).count 16) _ _ (kept-fits (paired_by c (pair_by c m)) paired-fits)
-      (synchronised-fits (kept_by (paired_by c (pair_by c m)) m t) (kept-fits (paired_by c (pair_by c m)) paired-fits))
+  joined_fits =
+      either Fits (ltb (kept_by (paired_by c (pair_by c m)) m t).count 16) _ _ (kept_fits (paired_by c (pair_by c m)) paired_fits)
+      (synchronised_fits (kept_by (paired_by c (pair_by c m)) m t) (kept_fits (paired_by c (pair_by c m)) paired_fits))
 
-  synchronise-fits : Fits (synchronise c m t)
+  synchronise_fits : Fits (synchronise c m t)
   unfolding synchronise
-  synchronise-fits =
+  synchronise_fits =
       either Fits (is_above c.last m.number) _ _
       (either Fits (is_following c.last m.number) _ _
-      (either Fits (eqb (first_failing c (pair_by c m)) 0) _ _ joined-fits (anew-fits (first_failing c (pair_by c m)))) (kept-fits c i)) forgotten-fits
+      (either Fits (eqb (first_failing c (pair_by c m)) 0) _ _ joined_fits (anew_fits (first_failing c (pair_by c m)))) (kept_fits c i)) forgotten_fits
 
   taken_fits : Fits (pair_taken c m t)
   unfolding pair_taken
-  taken_fits = either Fits (is_following c.last m.number) _ _ (resynchronised-fits (paired_by c (pair_by c m)) paired-fits) i
+  taken_fits = either Fits (is_following c.last m.number) _ _ (resynchronised_fits (paired_by c (pair_by c m)) paired_fits) i
 
-  gone-on-fits : Fits (gone_on c m t (mean_of c.pairs))
+  gone_on_fits : Fits (gone_on c m t (mean_of c.pairs))
   unfolding gone_on
-  gone-on-fits = kept-fits _ (in-period-fits (pair_taken c m t).clock (period_over c.period t) (mean_of c.pairs) taken_fits (mean-below 0 0 (omega arith) c m t i lm))
+  gone_on_fits = kept_fits _ (in_period_fits (pair_taken c m t).clock (period_over c.period t) (mean_of c.pairs) taken_fits (mean_below 0 0 (omega arith) c m t i lm))
 
-  pub resynchronise-fits : Fits (resynchronise c m t)
+  pub resynchronise_fits : Fits (resynchronise c m t)
   unfolding resynchronise
-  resynchronise-fits =
+  resynchronise_fits =
       either Fits (eqb (failing (standing_tests c.count c.resynchronised t)) 0) _ _
       (either Fits (is_above c.last m.number) _ _
-      (either Fits (eqb (failing (resynchronise_tests c m t)) 0) _ _ gone-on-fits (lost-fits (failing (resynchronise_tests c m t)))) i)
-      (lost-fits (failing (standing_tests c.count c.resynchronised t)))
+      (either Fits (eqb (failing (resynchronise_tests c m t)) 0) _ _ gone_on_fits (lost_fits (failing (resynchronise_tests c m t)))) i)
+      (lost_fits (failing (standing_tests c.count c.resynchronised t)))
 
-  pub heard-fits : Fits (heard_by c m t)
+  pub heard_fits : Fits (heard_by c m t)
   unfolding heard_by
-  heard-fits = either Fits (eqb c.state 1) _ _ synchronise-fits (either Fits (eqb c.state 2) _ _ resynchronise-fits i)
+  heard_fits = either Fits (eqb c.state 1) _ _ synchronise_fits (either Fits (eqb c.state 2) _ _ resynchronise_fits i)
 
 pub wrap_unseen_run : WrapUnseenRun
 wrap_unseen_run j k lk c [] i r = refl
 wrap_unseen_run j k lk c (x ∷ xs) i r =
     ap (λ (s : Step). after s.clock (map (moved_heard j k) xs)) (wrap_unseen j k lk c x.0 x.1 i r.0.0)
-    ∙ (wrap_unseen_run j k lk (heard_by c x.0 x.1).clock xs (heard-fits c x.0 x.1 i r.0.0 r.0.1) r.1)
+    ∙ (wrap_unseen_run j k lk (heard_by c x.0 x.1).clock xs (heard_fits c x.0 x.1 i r.0.0 r.0.1) r.1)
 
 -- ---- whoever asks
 
 module _ (j k : ℕ) (lk : k < 2 ^ 32) (c : Clock) (t : LocalTime) (i : Ranged c) where
-  counts-is : counts_at (moved_clock j k c) (moved_local k t) ≡ counts_at c t
+  counts_is : counts_at (moved_clock j k c) (moved_local k t) ≡ counts_at c t
   unfolding counts_at apart_by distance_of
-  counts-is = rw (same_minus k t.0 c.resynchronised.0 i.resynchronised)
+  counts_is = rw (same_minus k t.0 c.resynchronised.0 i.resynchronised)
 
 adjusted_law : (x y t f j k ot of mf tf p q r s u v : ℕ) → x < 2 ^ 32 → y < 2 ^ 32 → ot + p * 2 ^ 32 ≡ t + k → of + q * 2 ^ 32 ≡ f + j → mf + k + r * 2 ^ 32 ≡ of + 2 ^ 32
     → x + s * 2 ^ 32 ≡ ot + mf → tf + u * 2 ^ 32 ≡ t + f → y + v * 2 ^ 32 ≡ tf + j → x ≡ y
@@ -485,4 +485,4 @@ time_moved j k t false f f' lk e = refl
 pub wrap_unseen_asking : WrapUnseenAsking
 unfolding time_at factor_at
 wrap_unseen_asking j k lk c t i =
-    rw (counts-is j k lk c t i) (time_moved j k t (counts_at c t) (mean_of c.pairs) (mean_of (moved_clock j k c).pairs) lk (mean-moved j k lk c.pairs i.sixteen i.pairs))
+    rw (counts_is j k lk c t i) (time_moved j k t (counts_at c t) (mean_of c.pairs) (mean_of (moved_clock j k c).pairs) lk (mean_moved j k lk c.pairs i.sixteen i.pairs))

@@ -74,38 +74,38 @@ module _ (base h : ℕ) (low high : ℤ) (low_below : mag low < h) (high-below :
         lifted_add h (distance_of (difference_of p) base) (spread_of base ps) (omega (arith, distance_small (difference_of p) base, spread_small base ps)),
       )
 
-  sum-high : (ps : List Pair) → length ps * 2 ^ 31 + 2 ^ 31 + 2 < h → Every Bounded ps → lifted h (spread_of base ps) + length ps * h ≤ length ps * lifted h high + h
+  sum_high : (ps : List Pair) → length ps * 2 ^ 31 + 2 ^ 31 + 2 < h → Every Bounded ps → lifted h (spread_of base ps) + length ps * h ≤ length ps * lifted h high + h
   unfolding spread_of
-  sum-high [] x a = omega arith
-  sum-high (p ∷ ps) x a =
+  sum_high [] x a = omega arith
+  sum_high (p ∷ ps) x a =
       omega (
         arith,
-        sum-high ps (omega arith) a.1,
+        sum_high ps (omega arith) a.1,
         distance_small (difference_of p) base,
         spread_small base ps,
         le_lifted h (distance_of (difference_of p) base) high (omega (arith, distance_small (difference_of p) base)) high-below a.0.1,
         lifted_add h (distance_of (difference_of p) base) (spread_of base ps) (omega (arith, distance_small (difference_of p) base, spread_small base ps)),
       )
 
-  floor-between : (ps : List Pair) → length ps ≡ 16 → 2 ^ 40 < h → Every Bounded ps → (low ≤ℤ floor16 (spread_of base ps)) × (floor16 (spread_of base ps) ≤ℤ high)
-  floor-between ps long x a = (
-    lifted_le h low (floor16 (spread_of base ps)) low_below f-below
-        (omega (arith, sixteen-low, floor_high h (spread_of base ps) s-below)),
-    lifted_le h (floor16 (spread_of base ps)) high f-below high-below
-        (omega (arith, sixteen-high, floor_low h (spread_of base ps) s-below)),
+  floor_between : (ps : List Pair) → length ps ≡ 16 → 2 ^ 40 < h → Every Bounded ps → (low ≤ℤ floor16 (spread_of base ps)) × (floor16 (spread_of base ps) ≤ℤ high)
+  floor_between ps long x a = (
+    lifted_le h low (floor16 (spread_of base ps)) low_below f_below
+        (omega (arith, sixteen_low, floor_high h (spread_of base ps) s_below)),
+    lifted_le h (floor16 (spread_of base ps)) high f_below high-below
+        (omega (arith, sixteen_high, floor_low h (spread_of base ps) s_below)),
   )
     where
-      sixteen-low : 16 * lifted h low + h ≤ lifted h (spread_of base ps) + 16 * h
-      sixteen-low = subst (λ (n : ℕ). n * lifted h low + h ≤ lifted h (spread_of base ps) + n * h) long (sum_low ps (rw long (omega arith)) a)
+      sixteen_low : 16 * lifted h low + h ≤ lifted h (spread_of base ps) + 16 * h
+      sixteen_low = subst (λ (n : ℕ). n * lifted h low + h ≤ lifted h (spread_of base ps) + n * h) long (sum_low ps (rw long (omega arith)) a)
 
-      sixteen-high : lifted h (spread_of base ps) + 16 * h ≤ 16 * lifted h high + h
-      sixteen-high = subst (λ (n : ℕ). lifted h (spread_of base ps) + n * h ≤ n * lifted h high + h) long (sum-high ps (rw long (omega arith)) a)
+      sixteen_high : lifted h (spread_of base ps) + 16 * h ≤ 16 * lifted h high + h
+      sixteen_high = subst (λ (n : ℕ). lifted h (spread_of base ps) + n * h ≤ n * lifted h high + h) long (sum_high ps (rw long (omega arith)) a)
 
-      s-below : mag (spread_of base ps) < h
-      s-below = let b = spread_small base ps in omega arith
+      s_below : mag (spread_of base ps) < h
+      s_below = let b = spread_small base ps in omega arith
 
-      f-below : mag (floor16 (spread_of base ps)) < h
-      f-below = omega (arith, floor_size (spread_of base ps), s-below)
+      f_below : mag (floor16 (spread_of base ps)) < h
+      f_below = omega (arith, floor_size (spread_of base ps), s_below)
 
 -- ---- the mean, from the newest difference
 
@@ -142,20 +142,20 @@ all_in_range base [] = tt
 all_in_range base (p ∷ ps) = (in_range_holds (distance_of (difference_of p) base) (distance_small (difference_of p) base), all_in_range base ps)
 
 module _ (ps : List Pair) (long : length ps ≡ 16) where
-  floor-small : mag (floor16 (spread_of (difference_of (newest_of ps)) ps)) < 2 ^ 31
-  floor-small =
-      let b = floor-between (difference_of (newest_of ps)) (2 ^ 41) (negsuc (2 ^ 31 - 1)) (pos (2 ^ 31 - 1)) (omega arith) (omega arith) ps long (omega arith) (all_in_range (difference_of (newest_of ps)) ps)
+  floor_small : mag (floor16 (spread_of (difference_of (newest_of ps)) ps)) < 2 ^ 31
+  floor_small =
+      let b = floor_between (difference_of (newest_of ps)) (2 ^ 41) (negsuc (2 ^ 31 - 1)) (pos (2 ^ 31 - 1)) (omega arith) (omega arith) ps long (omega arith) (all_in_range (difference_of (newest_of ps)) ps)
       in range_size (floor16 (spread_of (difference_of (newest_of ps)) ps)) b.0 b.1
 
   -- how far the mean lies from the newest difference is the sixteenth of the sum
-  mean-away : distance_of (mean_of ps) (difference_of (newest_of ps)) ≡ floor16 (spread_of (difference_of (newest_of ps)) ps)
+  mean_away : distance_of (mean_of ps) (difference_of (newest_of ps)) ≡ floor16 (spread_of (difference_of (newest_of ps)) ps)
   unfolding mean_of
-  mean-away = back_again (difference_of (newest_of ps)) (floor16 (spread_of (difference_of (newest_of ps)) ps)) (difference_small (newest_of ps)) floor-small
+  mean_away = back_again (difference_of (newest_of ps)) (floor16 (spread_of (difference_of (newest_of ps)) ps)) (difference_small (newest_of ps)) floor_small
 
 pub between : Between
 between ps low high long a =
-    rw (mean-away ps long)
-    (floor-between (difference_of (newest_of ps)) (mag low + mag high + 2 ^ 41) low high (omega arith) (omega arith) ps long (omega arith) a)
+    rw (mean_away ps long)
+    (floor_between (difference_of (newest_of ps)) (mag low + mag high + 2 ^ 41) low high (omega arith) (omega arith) ps long (omega arith) a)
 
 -- ---- equal differences
 

@@ -19,7 +19,7 @@ use Rattle.clock.specs.declared.Clock.{Clock}
 use Rattle.clock.specs.declared.Step.{Step}
 use Rattle.clock.proofs.Circling.{minus_small}
 use Rattle.clock.proofs.Losing.{either, not_before, new_unsynchronised}
-use Rattle.clock.proofs.Moving.{onward_below, kept-fits, anew-fits, forgotten-fits, paired-fits, synchronised-fits, resynchronise-fits, heard-fits, wrap_unseen_run, wrap_unseen_asking}
+use Rattle.clock.proofs.Moving.{onward_below, kept_fits, anew_fits, forgotten_fits, paired_fits, synchronised_fits, resynchronise_fits, heard_fits, wrap_unseen_run, wrap_unseen_asking}
 
 -- ---- lists that begin alike
 
@@ -93,37 +93,37 @@ module _ (c : Clock) (m : Message) (t : LocalTime) (few : c.count ≤ 16) where
   abbrev Few : Step → Type 0
   Few h = h.clock.count ≤ 16
 
-  taken-few : Few (pair_taken c m t)
+  taken_few : Few (pair_taken c m t)
   unfolding pair_taken resynchronised_at paired_by
-  taken-few = either Few (is_following c.last m.number) _ _ (counted_few c.count) few
+  taken_few = either Few (is_following c.last m.number) _ _ (counted_few c.count) few
 
-  lost-few : (n : ℕ) → Few (lost_by c n)
+  lost_few : (n : ℕ) → Few (lost_by c n)
   unfolding lost_by isolated_by
-  lost-few n = omega arith
+  lost_few n = omega arith
 
-  gone-few : (f : ℕ) → Few (gone_on c m t f)
+  gone_few : (f : ℕ) → Few (gone_on c m t f)
   unfolding gone_on kept_by in_period
-  gone-few f = taken-few
+  gone_few f = taken_few
 
-  resynchronise-few : Few (resynchronise c m t)
+  resynchronise_few : Few (resynchronise c m t)
   unfolding resynchronise
-  resynchronise-few =
+  resynchronise_few =
       either Few (eqb (failing (standing_tests c.count c.resynchronised t)) 0) _ _
       (either Few (is_above c.last m.number) _ _
-      (either Few (eqb (failing (resynchronise_tests c m t)) 0) _ _ (gone-few (mean_of c.pairs)) (lost-few (failing (resynchronise_tests c m t)))) few)
-      (lost-few (failing (standing_tests c.count c.resynchronised t)))
+      (either Few (eqb (failing (resynchronise_tests c m t)) 0) _ _ (gone_few (mean_of c.pairs)) (lost_few (failing (resynchronise_tests c m t)))) few)
+      (lost_few (failing (standing_tests c.count c.resynchronised t)))
 
 -- ---- the number of a message, for clocks alike
 module _ (l k : Last) (n : ℕ) (same : l.received ≡ k.received) (known : (l.received ≡ 0 → ⊥) → l ≡ k) where
-  above-by : (b : Bool) → eqb l.received 0 ≡ b → is_above l n ≡ is_above k n
+  above_by : (b : Bool) → eqb l.received 0 ≡ b → is_above l n ≡ is_above k n
   unfolding is_above pick
-  above-by true e = rw (← same, e)
-  above-by false e = ap (λ (x : Last). is_above x n) (known (eqb-false l.received 0 e))
+  above_by true e = rw (← same, e)
+  above_by false e = ap (λ (x : Last). is_above x n) (known (eqb-false l.received 0 e))
 
-  following-by : (b : Bool) → eqb l.received 0 ≡ b → is_following l n ≡ is_following k n
+  following_by : (b : Bool) → eqb l.received 0 ≡ b → is_following l n ≡ is_following k n
   unfolding is_following pick
-  following-by true e = rw (← same, e)
-  following-by false e = ap (λ (x : Last). is_following x n) (known (eqb-false l.received 0 e))
+  following_by true e = rw (← same, e)
+  following_by false e = ap (λ (x : Last). is_following x n) (known (eqb-false l.received 0 e))
 
 clash : false ≡ true → ⊥
 unfolding pick
@@ -136,23 +136,23 @@ following_received l n f e = clash (rw e at f)
 -- ---- a message to clocks alike
 module _ (c d : Clock) (m : Message) (t : LocalTime) (a : Alike c d) (lm : m.reference.0 < 2 ^ 32) (lt : t.0 < 2 ^ 32) where
   same_above : is_above c.last m.number ≡ is_above d.last m.number
-  same_above = above-by c.last d.last m.number a.received a.last (eqb c.last.received 0) refl
+  same_above = above_by c.last d.last m.number a.received a.last (eqb c.last.received 0) refl
 
-  same-following : is_following c.last m.number ≡ is_following d.last m.number
-  same-following = following-by c.last d.last m.number a.received a.last (eqb c.last.received 0) refl
+  same_following : is_following c.last m.number ≡ is_following d.last m.number
+  same_following = following_by c.last d.last m.number a.received a.last (eqb c.last.received 0) refl
 
   -- unsynchronised
   module _ (e : c.state ≡ 1) where
     other : c.state ≡ 2 → ⊥
     other f = omega arith
 
-    kept-both : Both (saying 0 (kept_by c m t)) (saying 0 (kept_by d m t))
+    kept_both : Both (saying 0 (kept_by c m t)) (saying 0 (kept_by d m t))
     unfolding kept_by
-    kept-both = (
+    kept_both = (
       refl,
       record {
-        ranged_c = kept-fits c m t a.ranged_c lm lt c a.ranged_c;
-        ranged_d = kept-fits d m t a.ranged_d lm lt d a.ranged_d;
+        ranged_c = kept_fits c m t a.ranged_c lm lt c a.ranged_c;
+        ranged_d = kept_fits d m t a.ranged_d lm lt d a.ranged_d;
         few = a.few;
         count = a.count;
         state = a.state;
@@ -163,13 +163,13 @@ module _ (c d : Clock) (m : Message) (t : LocalTime) (a : Alike c d) (lm : m.ref
       },
     )
 
-    anew-both : (n : ℕ) → Both (anew_by c m t n) (anew_by d m t n)
+    anew_both : (n : ℕ) → Both (anew_by c m t n) (anew_by d m t n)
     unfolding anew_by kept_by begun_anew
-    anew-both n = (
+    anew_both n = (
       refl,
       record {
-        ranged_c = anew-fits c m t a.ranged_c lm lt n;
-        ranged_d = anew-fits d m t a.ranged_d lm lt n;
+        ranged_c = anew_fits c m t a.ranged_c lm lt n;
+        ranged_d = anew_fits d m t a.ranged_d lm lt n;
         few = omega arith;
         count = refl;
         state = a.state;
@@ -180,13 +180,13 @@ module _ (c d : Clock) (m : Message) (t : LocalTime) (a : Alike c d) (lm : m.ref
       },
     )
 
-    forgotten-both : Both (saying 101 (forgotten c)) (saying 101 (forgotten d))
+    forgotten_both : Both (saying 101 (forgotten c)) (saying 101 (forgotten d))
     unfolding forgotten
-    forgotten-both = (
+    forgotten_both = (
       refl,
       record {
-        ranged_c = forgotten-fits c m t a.ranged_c lm lt;
-        ranged_d = forgotten-fits d m t a.ranged_d lm lt;
+        ranged_c = forgotten_fits c m t a.ranged_c lm lt;
+        ranged_d = forgotten_fits d m t a.ranged_d lm lt;
         few = omega arith;
         count = refl;
         state = a.state;
@@ -202,28 +202,28 @@ module _ (c d : Clock) (m : Message) (t : LocalTime) (a : Alike c d) (lm : m.ref
       abbrev new : Pair
       new = pair_by c m
 
-      last-same : c.last ≡ d.last
-      last-same = a.last (following_received c.last m.number follows)
+      last_same : c.last ≡ d.last
+      last_same = a.last (following_received c.last m.number follows)
 
       pair_same : pair_by d m ≡ new
       unfolding pair_by
-      pair_same = rw last-same
+      pair_same = rw last_same
 
-      newest-by : (n : ℕ) → c.count ≡ suc n → newest_of c.pairs ≡ newest_of d.pairs
-      newest-by n f =
+      newest_by : (n : ℕ) → c.count ≡ suc n → newest_of c.pairs ≡ newest_of d.pairs
+      newest_by n f =
           sym (first_of n c.pairs no_pair) ∙ ap (λ (xs : List Pair). get_or xs 0 no_pair) (subst (λ (k : ℕ). take k c.pairs ≡ take k d.pairs) f a.pairs) ∙ first_of n d.pairs no_pair
 
-      failing-by : (n : ℕ) → c.count ≡ n → first_failing c new ≡ first_failing d new
+      failing_by : (n : ℕ) → c.count ≡ n → first_failing c new ≡ first_failing d new
       unfolding first_failing pick
-      failing-by zero f = rw (← a.count, f)
-      failing-by (suc n) f = rw (← a.count, newest-by n f)
+      failing_by zero f = rw (← a.count, f)
+      failing_by (suc n) f = rw (← a.count, newest_by n f)
 
-      joined-fewer : Alike (kept_by (paired_by c new) m t) (kept_by (paired_by d new) m t)
+      joined_fewer : Alike (kept_by (paired_by c new) m t) (kept_by (paired_by d new) m t)
       unfolding kept_by paired_by
-      joined-fewer =
+      joined_fewer =
           record {
-            ranged_c = kept-fits c m t a.ranged_c lm lt (paired_by c new) (paired-fits c m t a.ranged_c lm lt);
-            ranged_d = kept-fits d m t a.ranged_d lm lt (paired_by d new) (rw (← pair_same) (paired-fits d m t a.ranged_d lm lt));
+            ranged_c = kept_fits c m t a.ranged_c lm lt (paired_by c new) (paired_fits c m t a.ranged_c lm lt);
+            ranged_d = kept_fits d m t a.ranged_d lm lt (paired_by d new) (rw (← pair_same) (paired_fits d m t a.ranged_d lm lt));
             few = counted_few c.count;
             count = ap counted_of a.count;
             state = a.state;
@@ -241,70 +241,70 @@ module _ (c d : Clock) (m : Message) (t : LocalTime) (a : Alike c d) (lm : m.ref
       unfolding kept_by paired_by
       enough f = omega (arith, ltb-false (counted_of c.count) 16 f, counted_most c.count)
 
-      fronted-same : 15 ≤ c.count → fronted new c.pairs ≡ fronted new d.pairs
+      fronted_same : 15 ≤ c.count → fronted new c.pairs ≡ fronted new d.pairs
       unfolding fronted
-      fronted-same l = ap (λ (r : List Pair). new ∷ r) (fewer_alike 15 c.count c.pairs d.pairs l a.pairs)
+      fronted_same l = ap (λ (r : List Pair). new ∷ r) (fewer_alike 15 c.count c.pairs d.pairs l a.pairs)
 
-      synchronised-same : 15 ≤ c.count → synchronised_at (kept_by (paired_by c new) m t) t ≡ synchronised_at (kept_by (paired_by d new) m t) t
+      synchronised_same : 15 ≤ c.count → synchronised_at (kept_by (paired_by c new) m t) t ≡ synchronised_at (kept_by (paired_by d new) m t) t
       unfolding synchronised_at kept_by paired_by
-      synchronised-same l = rw (fronted-same l, a.count)
+      synchronised_same l = rw (fronted_same l, a.count)
 
-      synchronised-few : (synchronised_at (kept_by (paired_by c new) m t) t).count ≤ 16
+      synchronised_few : (synchronised_at (kept_by (paired_by c new) m t) t).count ≤ 16
       unfolding synchronised_at kept_by paired_by
-      synchronised-few = counted_few c.count
+      synchronised_few = counted_few c.count
 
-      synchronised-both : 15 ≤ c.count → Both (saying 2 (synchronised_at (kept_by (paired_by c new) m t) t)) (saying 2 (synchronised_at (kept_by (paired_by d new) m t) t))
-      synchronised-both l = (
+      synchronised_both : 15 ≤ c.count → Both (saying 2 (synchronised_at (kept_by (paired_by c new) m t) t)) (saying 2 (synchronised_at (kept_by (paired_by d new) m t) t))
+      synchronised_both l = (
         refl,
         alike_same (synchronised_at (kept_by (paired_by c new) m t) t) (synchronised_at (kept_by (paired_by d new) m t) t)
-            (synchronised-fits c m t a.ranged_c lm lt (kept_by (paired_by c new) m t) (kept-fits c m t a.ranged_c lm lt (paired_by c new) (paired-fits c m t a.ranged_c lm lt)))
-            synchronised-few (synchronised-same l),
+            (synchronised_fits c m t a.ranged_c lm lt (kept_by (paired_by c new) m t) (kept_fits c m t a.ranged_c lm lt (paired_by c new) (paired_fits c m t a.ranged_c lm lt)))
+            synchronised_few (synchronised_same l),
       )
 
-      joined-both : Both (joined_by c new m t) (joined_by d new m t)
+      joined_both : Both (joined_by c new m t) (joined_by d new m t)
       unfolding joined_by
-      joined-both =
+      joined_both =
           by_tests (ltb (kept_by (paired_by c new) m t).count 16) (ltb (kept_by (paired_by d new) m t).count 16) _ _ _ _ (ap (λ (n : ℕ). ltb n 16) (sym counted_same))
-          (λ f. (refl, joined-fewer)) (λ f. synchronised-both (enough f))
+          (λ f. (refl, joined_fewer)) (λ f. synchronised_both (enough f))
 
-      paired-both : Both (pick (eqb (first_failing c new) 0) (joined_by c new m t) (anew_by c m t (first_failing c new)))
+      paired_both : Both (pick (eqb (first_failing c new) 0) (joined_by c new m t) (anew_by c m t (first_failing c new)))
           (pick (eqb (first_failing d (pair_by d m)) 0) (joined_by d (pair_by d m) m t) (anew_by d m t (first_failing d (pair_by d m))))
-      paired-both =
-          rw (pair_same, ← failing-by c.count refl)
-          (by_test (eqb (first_failing c new) 0) _ _ _ _ (λ f. joined-both) (λ f. anew-both (first_failing c new)))
+      paired_both =
+          rw (pair_same, ← failing_by c.count refl)
+          (by_test (eqb (first_failing c new) 0) _ _ _ _ (λ f. joined_both) (λ f. anew_both (first_failing c new)))
 
-    synchronise-both : Both (synchronise c m t) (synchronise d m t)
+    synchronise_both : Both (synchronise c m t) (synchronise d m t)
     unfolding synchronise
-    synchronise-both =
-        rw (← same_above, ← same-following)
+    synchronise_both =
+        rw (← same_above, ← same_following)
         (by_test (is_above c.last m.number) _ _ _ _
-        (λ g. by_test (is_following c.last m.number) _ _ _ _ (λ f. paired-both f) (λ f. kept-both)) (λ g. forgotten-both))
+        (λ g. by_test (is_following c.last m.number) _ _ _ _ (λ f. paired_both f) (λ f. kept_both)) (λ g. forgotten_both))
 
   -- synchronised: one clock
-  resynchronise-both : c.state ≡ 2 → Both (resynchronise c m t) (resynchronise d m t)
-  resynchronise-both e =
+  resynchronise_both : c.state ≡ 2 → Both (resynchronise c m t) (resynchronise d m t)
+  resynchronise_both e =
       subst (λ (x : Clock). Both (resynchronise c m t) (resynchronise x m t)) (a.rest e)
-      (refl, alike_same (resynchronise c m t).clock (resynchronise c m t).clock (resynchronise-fits c m t a.ranged_c lm lt) (resynchronise-few c m t a.few) refl)
+      (refl, alike_same (resynchronise c m t).clock (resynchronise c m t).clock (resynchronise_fits c m t a.ranged_c lm lt) (resynchronise_few c m t a.few) refl)
 
-  heard-by : (u v : Bool) → eqb c.state 1 ≡ u → eqb c.state 2 ≡ v
+  heard_by_holds : (u v : Bool) → eqb c.state 1 ≡ u → eqb c.state 2 ≡ v
       → Both (pick u (synchronise c m t) (pick v (resynchronise c m t) (saying 5 c))) (pick u (synchronise d m t) (pick v (resynchronise d m t) (saying 5 d)))
   unfolding pick
-  heard-by true v e f = synchronise-both (eqb-true c.state 1 e)
-  heard-by false true e f = resynchronise-both (eqb-true c.state 2 f)
-  heard-by false false e f = (refl, a)
+  heard_by_holds true v e f = synchronise_both (eqb-true c.state 1 e)
+  heard_by_holds false true e f = resynchronise_both (eqb-true c.state 2 f)
+  heard_by_holds false false e f = (refl, a)
 
-  heard-both : Both (heard_by c m t) (heard_by d m t)
+  heard_both : Both (heard_by c m t) (heard_by d m t)
   unfolding heard_by
-  heard-both =
+  heard_both =
       subst (λ (s : ℕ). Both (heard_by c m t) (pick (eqb s 1) (synchronise d m t) (pick (eqb s 2) (resynchronise d m t) (saying 5 d)))) a.state
-      (heard-by (eqb c.state 1) (eqb c.state 2) refl refl)
+      (heard_by_holds (eqb c.state 1) (eqb c.state 2) refl refl)
 
 -- ---- a run of messages, and whoever asks
 
 alike_run : (c d : Clock) (xs : List (Message × LocalTime)) → Alike c d → Every InRange xs → Alike (after c xs) (after d xs)
 alike_run c d [] a i = a
 alike_run c d (x ∷ xs) a i =
-    alike_run (heard_by c x.0 x.1).clock (heard_by d x.0 x.1).clock xs (heard-both c d x.0 x.1 a i.0.0 i.0.1).1 i.1
+    alike_run (heard_by c x.0 x.1).clock (heard_by d x.0 x.1).clock xs (heard_both c d x.0 x.1 a i.0.0 i.0.1).1 i.1
 
 time_alike : (c d : Clock) (t : LocalTime) (b : Bool) → eqb c.state 2 ≡ b → Alike c d → time_at c t ≡ time_at d t
 time_alike c d t true e a = ap (λ (x : Clock). time_at x t) (a.rest (eqb-true c.state 2 e))
@@ -313,7 +313,7 @@ time_alike c d t false e a =
 
 ranged_run : (c : Clock) (xs : List (Message × LocalTime)) → Ranged c → Every InRange xs → Ranged (after c xs)
 ranged_run c [] r i = r
-ranged_run c (x ∷ xs) r i = ranged_run (heard_by c x.0 x.1).clock xs (heard-fits c x.0 x.1 r i.0.0 i.0.1) i.1
+ranged_run c (x ∷ xs) r i = ranged_run (heard_by c x.0 x.1).clock xs (heard_fits c x.0 x.1 r i.0.0 i.0.1) i.1
 
 every_same : (n : ℕ) (p : Pair) → Timed p → Every Timed (replicate n p)
 every_same zero p i = tt

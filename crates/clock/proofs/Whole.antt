@@ -47,8 +47,8 @@ module _ (x : ℤ) (fx : SFits w64 x) where
   pub held_below : lt_z (to_z w64 (of_z w64 x)) (pos 0) ≡ true → x ≡ negsuc (mag x)
   held_below h = below_zero x (rw held at h)
 
-  pub held-above : lt_z (to_z w64 (of_z w64 x)) (pos 0) ≡ false → x ≡ pos (mag x)
-  held-above h = not_below_zero x (rw held at h)
+  pub held_above : lt_z (to_z w64 (of_z w64 x)) (pos 0) ≡ false → x ≡ pos (mag x)
+  held_above h = not_below_zero x (rw held at h)
 
 opposite : (x : ℤ) → x ≡ negsuc (mag x) → negsuc 0 -ℤ x ≡ pos (mag x)
 opposite (pos n) e = let z : ◌≡◌ {A = ℕ} 0 1 = cc in absurd (omega arith)

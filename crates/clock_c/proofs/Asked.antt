@@ -78,9 +78,9 @@ module _ (F : Declared) (L : LL.Laws F) (P : Plains (fields F)) (answer : Clock 
         by ! (ends 𝓛 Question (asked 𝓤) (bound 𝓛 Question (asked 𝓤) (spells params) κs qs bounds a z) w r (tt, (tt, tt)) (LL.makes F P 𝓛 r (w ∷ []) is') (fact_i 𝓤 _ (emp 𝓤) e))))
 
   -- such a function meets its contract, where the one that it calls does
-  pub asks-by : {M : Type 1} {𝓤 : Ura M} (𝓛 : Logic 𝓤) (𝓜 : Model 𝓤 𝓛.H) (𝓡 : Running 𝓤 𝓛.H 𝓜) (γ : Env) (f g : Name) → Closed 𝓤 𝓛.H (tables 𝓤 𝓛.H 𝓜 𝓡 γ).C (tables 𝓤 𝓛.H 𝓜 𝓡 γ).Λ f (asking g)
+  pub asks_by : {M : Type 1} {𝓤 : Ura M} (𝓛 : Logic 𝓤) (𝓜 : Model 𝓤 𝓛.H) (𝓡 : Running 𝓤 𝓛.H 𝓜) (γ : Env) (f g : Name) → Closed 𝓤 𝓛.H (tables 𝓤 𝓛.H 𝓜 𝓡 γ).C (tables 𝓤 𝓛.H 𝓜 𝓡 γ).Λ f (asking g)
       → Triple 𝓤 ((tables 𝓤 𝓛.H 𝓜 𝓡 γ).C g) (Met 𝓛 Answer (answered 𝓤)) → Triple 𝓤 ((tables 𝓤 𝓛.H 𝓜 𝓡 γ).C f) (Met 𝓛 Question (asked 𝓤))
   unfolding tables_of
-  asks-by {𝓤 = 𝓤} 𝓛 𝓜 𝓡 γ f g closed known =
+  asks_by {𝓤 = 𝓤} 𝓛 𝓜 𝓡 γ f g closed known =
       enters_by 𝓛 𝓜 𝓡 γ f (asking g) closed Question (asked 𝓤) (spells params) (tellss params) (lawfuls 𝓛 params) (λ κs. refl)
       (walk 𝓛 (tables 𝓤 𝓛.H 𝓜 𝓡 γ).C (tables 𝓤 𝓛.H 𝓜 𝓡 γ).Λ (fm_of 𝓤 𝓛.H 𝓛.laws (tables_of 𝓤 𝓛.H 𝓜 (tables 𝓤 𝓛.H 𝓜 𝓡 γ))) g known)

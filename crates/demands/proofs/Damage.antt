@@ -12,7 +12,7 @@ use lib.Dec.{eqb}
 use Rattle.checkword.specs.Bytes.{Bytes, Within}
 use Rattle.checkword.specs.Word.{word, Agrees}
 use Rattle.checkword.proofs.Bytes.{bytes_append, bytes_drop}
-use Rattle.checkword.proofs.Facts.{burst-of, agrees_by_remainder}
+use Rattle.checkword.proofs.Facts.{burst_of, agrees_by_remainder}
 use Rattle.ground.specs.Choice.{pick}
 use Rattle.telegram.specs.Levels.{level_of, width, word_length, generator}
 use Rattle.telegram.specs.Commands.{kind_of_command, known}
@@ -34,7 +34,7 @@ use Rattle.demands.specs.Damage.Damage.{before_the_word, in_the_word}
 
 pub seen_over_the_width : SeenOverTheWidth
 seen_over_the_width w g n k good size few a b c d ha hb hc hd lc ld within differ p q =
-    burst-of w g good n few (a ++ c) (b ++ d) (bytes_append a c ha hc) (bytes_append b d hb hd) within differ
+    burst_of w g good n few (a ++ c) (b ++ d) (bytes_append a c ha hc) (bytes_append b d hb hd) within differ
     ((agrees_by_remainder w g good k size a c ha hc lc).0 p ∙ sym ((agrees_by_remainder w g good k size b d hb hd ld).0 q))
 
 -- A telegram behind its implicit bytes, with its check word: what is covered, and the check word.
@@ -58,8 +58,8 @@ module _ (e : End) (m : ℕ) (t : List ℕ) (bytes : Bytes t) (p : check_of e m 
   abbrev l : ℕ
   l = e.level
 
-  covered-bytes : Bytes (whole e l (used_for m t) t)
-  covered-bytes = whole_bytes e l (used_for m t) t bytes
+  covered_bytes : Bytes (whole e l (used_for m t) t)
+  covered_bytes = whole_bytes e l (used_for m t) t bytes
 
   word_bytes : Bytes (word_of l t)
   word_bytes = bytes_drop (covered l t) t bytes
@@ -74,7 +74,7 @@ module _ (e : End) (m : ℕ) (t : List ℕ) (bytes : Bytes t) (p : check_of e m 
   pub leaves_nothing : word (width l) (generator l) (message e (used_for m t) t) ≡ 0
   leaves_nothing =
       sym (ap (word (width l) (generator l)) (joined e l (used_for m t) t))
-      ∙ (agrees_by_remainder (width l) (generator l) (generator_good l) (word_length l) (width_is l) (whole e l (used_for m t) t) (word_of l t) covered-bytes word_bytes size).0 agrees
+      ∙ (agrees_by_remainder (width l) (generator l) (generator_good l) (word_length l) (width_is l) (whole e l (used_for m t) t) (word_of l t) covered_bytes word_bytes size).0 agrees
 
 -- what differs only within n places still does behind the same bytes
 within_behind : {n : ℕ} {a b : List ℕ} (s : List ℕ) → Within n a b → Within n (s ++ a) (s ++ b)
@@ -92,8 +92,8 @@ seen e m n t u few changed within same p q =
     joined e e.level (used_for m t) t ∙ ap {B = List ℕ} (λ (s : List ℕ). s ++ t) same in
     let u-is : whole e e.level (used_for m u) u ++ word_of e.level u ≡ before ++ u = joined e e.level (used_for m u) u in
     seen_over_the_width (width e.level) (generator e.level) n (word_length e.level) (generator_good e.level) (width_is e.level) few
-    (whole e e.level (used_for m t) t) (whole e e.level (used_for m u) u) (word_of e.level t) (word_of e.level u) (covered-bytes e m t ht p)
-    (covered-bytes e m u hu q) (word_bytes e m t ht p) (word_bytes e m u hu q) (size e m t ht p) (size e m u hu q) (rw (t-is, u-is) (within_behind before within))
+    (whole e e.level (used_for m t) t) (whole e e.level (used_for m u) u) (word_of e.level t) (word_of e.level u) (covered_bytes e m t ht p)
+    (covered_bytes e m u hu q) (word_bytes e m t ht p) (word_bytes e m u hu q) (size e m t ht p) (size e m u hu q) (rw (t-is, u-is) (within_behind before within))
     (λ one. changed.differs (append_cancel_left before t u (sym t-is ∙ one ∙ u-is))) (agrees e m t ht p) (agrees e m u hu q)
 
 -- What a telegram is used with

@@ -19,7 +19,7 @@ use Rattle.checkword.specs.Generators.{generator48, generator32, good48, good32}
 use Rattle.checkword.specs.Word.{run, word}
 use Rattle.checkword.proofs.Xor.{xor_twice}
 use Rattle.checkword.proofs.Bytes.{bytes_take, bytes_drop}
-use Rattle.checkword.proofs.Run.{run_append, run-lt, run-lin, run-inj}
+use Rattle.checkword.proofs.Run.{run_append, run_lt, run_lin, run_inj}
 use Rattle.ground.specs.Choice.{pick}
 use Rattle.telegram.specs.Levels.{width, word_length, generator}
 use Rattle.ground.specs.Numbers.{lowest_first}
@@ -73,20 +73,20 @@ equal_of a b e = sym (sym (xor_twice a b) ∙ ap (bit_xor a) e ∙ xor_zero_r a)
 change_leaves_nothing : (w g : ℕ) (good : Generator w g) (s a b z : List ℕ) → Bytes s → Bytes a → Bytes b → Bytes z → length a ≡ length b
     → word w g (s ++ (a ++ z)) ≡ 0 → word w g (s ++ (b ++ z)) ≡ 0 → word w g (xors a b) ≡ 0
 change_leaves_nothing w g good s a b z hs ha hb hz l p q =
-    ap (λ (x : ℕ). run w g x (xors a b)) (sym (xor_self r)) ∙ run-lin w g good a b r r l r-lt r-lt ha hb ∙ ap (bit_xor (run w g r a)) (sym same) ∙ xor_self (run w g r a)
+    ap (λ (x : ℕ). run w g x (xors a b)) (sym (xor_self r)) ∙ run_lin w g good a b r r l r_lt r_lt ha hb ∙ ap (bit_xor (run w g r a)) (sym same) ∙ xor_self (run w g r a)
   where
     r : ℕ
     r = run w g 0 s
 
-    r-lt : r < 2 ^ w
-    r-lt = run-lt w g good s 0 (pow_pos w) hs
+    r_lt : r < 2 ^ w
+    r_lt = run_lt w g good s 0 (pow_pos w) hs
 
     along : (c : List ℕ) → word w g (s ++ (c ++ z)) ≡ run w g (run w g r c) z
     along c = run_append w g 0 s (c ++ z) ∙ run_append w g r c z
 
     same : run w g r a ≡ run w g r b
     same =
-        run-inj w g good z (run w g r a) (run w g r b) (run-lt w g good a r r-lt ha) (run-lt w g good b r r-lt hb) hz
+        run_inj w g good z (run w g r a) (run w g r b) (run_lt w g good a r r_lt ha) (run_lt w g good b r r_lt hb) hz
         (sym (along a) ∙ p ∙ sym q ∙ along b)
 
 -- What a connect request or confirm that passes says of its bytes
@@ -126,9 +126,9 @@ module _ (e : End) (m : ℕ) (t : List ℕ) (bytes : Bytes t) (p : Passed e m t)
   abbrev random : ℕ
   random = get_or t 2 0 + 256 * (get_or t 3 0 + 256 * (get_or t 4 0 + 256 * (get_or t 5 0 + 256 * 0)))
 
-  header-by : used_for m t ≡ random → good_idle (get_or t 6 0 + 256 * (get_or t 7 0 + 256 * 0)) ≡ true → 12 + word_length e.level ≤ length t → Header e m t
+  header_by : used_for m t ≡ random → good_idle (get_or t 6 0 + 256 * (get_or t 7 0 + 256 * 0)) ≡ true → 12 + word_length e.level ≤ length t → Header e m t
   unfolding implicit
-  header-by used idle room =
+  header_by used idle room =
       let at = byte_lt t bytes in
       record {
         implicit_are =
@@ -142,9 +142,9 @@ module _ (e : End) (m : ℕ) (t : List ℕ) (bytes : Bytes t) (p : Passed e m t)
 
   header_of : Connect t → Header e m t
   header_of (inl k) =
-      header-by (rw k) (both_true _ _ (rw k at p.good_fields_holds)).0 (suits_room Request e.level (length t) (rw k at p.of_length)).0
+      header_by (rw k) (both_true _ _ (rw k at p.good_fields_holds)).0 (suits_room Request e.level (length t) (rw k at p.of_length)).0
   header_of (inr k) =
-      header-by (rw k) (both_true _ _ (rw k at p.good_fields_holds)).0 (suits_room Confirm e.level (length t) (rw k at p.of_length)).0
+      header_by (rw k) (both_true _ _ (rw k at p.good_fields_holds)).0 (suits_room Confirm e.level (length t) (rw k at p.of_length)).0
 
 -- The twelve bytes of the header, behind those of them that are implicit bytes too
 abbrev led : List ℕ → List ℕ
@@ -173,8 +173,8 @@ module _ (e : End) (m n : ℕ) (t u : List ℕ) (changed : Changed t u) (within 
   one_size : length (take 12 t) ≡ length (take 12 u)
   one_size = twelve t (omega (arith, h.room)) ∙ sym (twelve u (omega (arith, k.room)))
 
-  change-at : (i : ℕ) → i < 12 → get_or change i 0 ≡ bit_xor (get_or t i 0) (get_or u i 0)
-  change-at i low = xors_at (take 12 t) (take 12 u) one_size i ∙ ap₂ bit_xor (get_or-take 12 t i 0 low) (get_or-take 12 u i 0 low)
+  change_at : (i : ℕ) → i < 12 → get_or change i 0 ≡ bit_xor (get_or t i 0) (get_or u i 0)
+  change_at i low = xors_at (take 12 t) (take 12 u) one_size i ∙ ap₂ bit_xor (get_or-take 12 t i 0 low) (get_or-take 12 u i 0 low)
 
   unchanged : (i : ℕ) → get_or t i 0 ≡ get_or u i 0 → get_or change i 0 ≡ 0
   unchanged i same =
@@ -193,14 +193,14 @@ module _ (e : End) (m n : ℕ) (t u : List ℕ) (changed : Changed t u) (within 
     same_rest =
         ext_get_or 0 (drop 12 t) (drop 12 u) (omega (arith, changed.one_length, length-drop 12 t, length-drop 12 u)) (λ i low. get_or-drop 12 t i 0 ∙ within.after (12 + i) (omega arith) ∙ sym (get_or-drop 12 u i 0))
 
-    is-change : (j : ℕ) → n ≤ j → Change j change
-    is-change j most =
+    is_change : (j : ℕ) → n ≤ j → Change j change
+    is_change j most =
         record {
           bytes = xors_bytes (take 12 t) (take 12 u) (bytes_take 12 t changed.bytes) (bytes_take 12 u changed.came);
           twelve = xors_length (take 12 t) (take 12 u) one_size ∙ twelve t (omega (arith, h.room));
-          number = change-at 0 (omega arith) ∙ ap₂ bit_xor h.byte_1_and_3 k.byte_1_and_3 ∙ sym (change-at 2 (omega arith));
+          number = change_at 0 (omega arith) ∙ ap₂ bit_xor h.byte_1_and_3 k.byte_1_and_3 ∙ sym (change_at 2 (omega arith));
           idle_time_holds =
-              ap (λ (x : ℕ). x % 4) (change-at 6 (omega arith)) ∙ xor_mod (get_or t 6 0) (get_or u 6 0) 2 ∙ ap₂ bit_xor h.idle_time_holds k.idle_time_holds;
+              ap (λ (x : ℕ). x % 4) (change_at 6 (omega arith)) ∙ xor_mod (get_or t 6 0) (get_or u 6 0) 2 ∙ ap₂ bit_xor h.idle_time_holds k.idle_time_holds;
           start = within.start;
           early = early;
           before = λ i low. unchanged i (within.before i low);
@@ -209,17 +209,17 @@ module _ (e : End) (m n : ℕ) (t u : List ℕ) (changed : Changed t u) (within 
 
     leaves : (w g : ℕ) → Generator w g → word w g (message e (used_for m t) t) ≡ 0 → word w g (message e (used_for m u) u) ≡ 0 → word w g (echoed change) ≡ 0
     leaves w g good p q =
-        rw (change-at 3 (omega arith), change-at 4 (omega arith), change-at 5 (omega arith))
+        rw (change_at 3 (omega arith), change_at 4 (omega arith), change_at 5 (omega arith))
         (change_leaves_nothing w g good (parties e (length u)) (led t) (led u) (drop 12 u) (parties_bytes e (length u)) (led_bytes t changed.bytes) (led_bytes u changed.came) (bytes_drop 12 u changed.came)
         (ap (λ (x : ℕ). suc (suc (suc x))) one_size)
         (sym (ap (word w g) (led_message e m t h ∙ ap₂ {C = List ℕ} (λ (x : ℕ) (s : List ℕ). parties e x ++ (led t ++ s)) changed.one_length same_rest)) ∙ p)
         (sym (ap (word w g) (led_message e m u k)) ∙ q))
 
-    same-telegram : ((i : ℕ) → get_or change i 0 ≡ 0) → t ≡ u
-    same-telegram none = ext_get_or 0 t u changed.one_length (λ i low. by i (ltb i 12) refl)
+    same_telegram : ((i : ℕ) → get_or change i 0 ≡ 0) → t ≡ u
+    same_telegram none = ext_get_or 0 t u changed.one_length (λ i low. by i (ltb i 12) refl)
       where
         by : (i : ℕ) (b : Bool) → ltb i 12 ≡ b → get_or t i 0 ≡ get_or u i 0
-        by i true f = let low : i < 12 = ltb-true i 12 f in equal_of (get_or t i 0) (get_or u i 0) (sym (change-at i low) ∙ none i)
+        by i true f = let low : i < 12 = ltb-true i 12 f in equal_of (get_or t i 0) (get_or u i 0) (sym (change_at i low) ∙ none i)
         by i false f = let high : 12 ≤ i = ltb-false i 12 f in within.after i (omega arith)
 
 -- the levels that there are
@@ -245,10 +245,10 @@ connect_seen e m n t u few connect connect' changed within p q = by (leb within.
 
     at_level : n ≤ 6 → within.start ≤ 5 → (e.level ≡ 4) ⊎ (e.level ≡ 2) → (i : ℕ) → get_or (change e m n t u changed within h k) i 0 ≡ 0
     at_level small early (inl at_4) =
-        echo_seen_4 _ (is-change e m n t u changed within h k small early 6 small)
+        echo_seen_4 _ (is_change e m n t u changed within h k small early 6 small)
         (leaves e m n t u changed within h k small early 48 generator48 good48 (rw at_4 at (leaves_nothing e m t changed.bytes p)) (rw at_4 at (leaves_nothing e m u changed.came q)))
     at_level small early (inr at_2) =
-        echo_seen_2 _ (is-change e m n t u changed within h k small early 4 (omega (arith, width_is e.level, four e.level (λ f. omega arith))))
+        echo_seen_2 _ (is_change e m n t u changed within h k small early 4 (omega (arith, width_is e.level, four e.level (λ f. omega arith))))
         (leaves e m n t u changed within h k small early 32 generator32 good32 (rw at_2 at (leaves_nothing e m t changed.bytes p)) (rw at_2 at (leaves_nothing e m u changed.came q)))
 
     by : (b : Bool) → leb within.start 5 ≡ b → ⊥
@@ -256,6 +256,6 @@ connect_seen e m n t u few connect connect' changed within p q = by (leb within.
         let early : within.start ≤ 5 = leb-true within.start 5 f in
         let small : n ≤ 6 = omega (arith, width_is e.level, word_small e.level) in
         changed.differs
-        (same-telegram e m n t u changed within h k small early (at_level small early (of_levels e.level (level_there e (passed e m t p).in_range_holds))))
+        (same_telegram e m n t u changed within h k small early (at_level small early (of_levels e.level (level_there e (passed e m t p).in_range_holds))))
     by false f =
         seen e m n t u few changed within (same_implicit e m n t u changed within h k (leb-false within.start 5 f)) p q

@@ -57,7 +57,7 @@ use Rattle.demands.specs.Demand2.{ComesUp, GoesOn, SentComesUp, IdleIsTaken, IsC
 use Rattle.demands.specs.Demand2.IsTaken.{as_data, as_idle, as_disconnect}
 use Rattle.demands.proofs.Carried.{Carried, carried, step_in, done_by_holds}
 use Rattle.demands.proofs.Steps.{Writes, writes, judged_open}
-use Rattle.demands.proofs.Effects.{told, effect_of, act_does, call_does, left_by, receipt_at, tick_does, send-writes, send-does, Disconnects, act_closes, close_closes_step}
+use Rattle.demands.proofs.Effects.{told, effect_of, act_does, call_does, left_by, receipt_at, tick_does, send_writes, send_does, Disconnects, act_closes, close_closes_step}
 
 -- Two nodes by their heads and tables, as the calls take them; the statements put them together.
 record Link (h : Head) (t : List Record) (i : ℕ) (k : Head) (u : List Record) (j : ℕ) : Type 0 where
@@ -217,15 +217,15 @@ module _ (h k : Head) (t u : List Record) (i j low time at random : ℕ) (idle_t
     c = carried (Send i low net) h t time d done
 
     is : telegram_of l ≡ x
-    is = told l d i _ (send-does h t i time d low net done)
+    is = told l d i _ (send_does h t i time d low net done)
 
-    is-taken : Taken end r.sending (telegram_of l) kind.Data [] net
+    is_taken : Taken end r.sending (telegram_of l) kind.Data [] net
     unfolding writes_data
-    is-taken = subst (λ (y : List ℕ). Taken end r.sending y kind.Data [] net) (sym is) (data_taken end r.sending low net d x bytes (send-writes h t i time d low net c).written)
+    is_taken = subst (λ (y : List ℕ). Taken end r.sending y kind.Data [] net) (sym is) (data_taken end r.sending low net d x bytes (send_writes h t i time d low net c).written)
 
     low_is : low_of (telegram_of l) ≡ low
     low_is =
-        let ok = clear end (length d) 0 (data_allowed low (length net) end.level) (sym (send-writes h t i time d low net c).none) refl in
+        let ok = clear end (length d) 0 (data_allowed low (length net) end.level) (sym (send_writes h t i time d low net c).none) refl in
         ap low_of is ∙ low_back end.level r.sending low end net (data_small low (data_command low (length net) end.level ok.2)).1
 
     abbrev came : Left
@@ -233,7 +233,7 @@ module _ (h k : Head) (t u : List Record) (i j low time at random : ℕ) (idle_t
 
     module _ (link : Link h t i k u j) (watch : watch_over (record_at u j) at ≡ false) (got : Done came) where
       there : Does came e j (handing_up (record_at u j) at (telegram_of l))
-      there = taken_there l h k t u i j at random idle_time_holds spare e kind.Data [] net link watch is-taken got
+      there = taken_there l h k t u i j at random idle_time_holds spare e kind.Data [] net link watch is_taken got
 
       up : ComesUp low net (telegram_of l) came.outcome.event
       up =
@@ -241,7 +241,7 @@ module _ (h k : Head) (t u : List Record) (i j low time at random : ℕ) (idle_t
           record {
             data_event = two;
             command = ap (λ (y : Event). (happened y).command) there.says ∙ low_is;
-            net_data_holds = net_data_handed_on (route_from h.own r) random idle_time_holds (telegram_of l) spare k u at e two ∙ is-taken.net_data_holds;
+            net_data_holds = net_data_handed_on (route_from h.own r) random idle_time_holds (telegram_of l) spare k u at e two ∙ is_taken.net_data_holds;
           }
 
       moved : Moved t l.table i time u came.table j at
@@ -250,7 +250,7 @@ module _ (h k : Head) (t u : List Record) (i j low time at random : ℕ) (idle_t
           record {
             here = rw (others_unchanged.count (Send i low net) h t time d) link.here;
             there = rw (others_unchanged.count (Received (route_from h.own r) random idle_time_holds (telegram_of l) spare) k u at e) link.there;
-            left = left_by (Send i low net) h t time d c ∙ (send-writes h t i time d low net c).left;
+            left = left_by (Send i low net) h t time d c ∙ (send_writes h t i time d low net c).left;
             taken_is = there.leaves;
           }
 
@@ -285,23 +285,23 @@ module _ (h k : Head) (t u : List Record) (i j time at random : ℕ) (idle_time_
     cᵢ : Carried (Tick i) h t time d
     cᵢ = carried (Tick i) h t time d done
 
-    idle-writes : Writes (idle endᵢ rᵢ.sending) d (sent rᵢ time) 6 event.Nothing (refusal endᵢ (length d) true) (tick_of rᵢ h.own time d) (tick_out rᵢ h.own time d)
+    idle_writes : Writes (idle endᵢ rᵢ.sending) d (sent rᵢ time) 6 event.Nothing (refusal endᵢ (length d) true) (tick_of rᵢ h.own time d) (tick_out rᵢ h.own time d)
     unfolding tick_of tick_out writes_idle
-    idle-writes = rw verdict (writes (tick_refusal rᵢ h.own d) (refusal endᵢ (length d) true) (idle endᵢ rᵢ.sending) d rᵢ (sent rᵢ time) 6 event.Nothing (rw verdict at cᵢ.number))
+    idle_writes = rw verdict (writes (tick_refusal rᵢ h.own d) (refusal endᵢ (length d) true) (idle endᵢ rᵢ.sending) d rᵢ (sent rᵢ time) 6 event.Nothing (rw verdict at cᵢ.number))
 
     isᵢ : telegram_of lᵢ ≡ idle endᵢ rᵢ.sending
     isᵢ = told lᵢ d i _ (tick_does h t i time d SendIdle verdict done)
 
     is-takenᵢ : Taken endᵢ rᵢ.sending (telegram_of lᵢ) kind.Idle [] []
     unfolding writes_idle
-    is-takenᵢ = subst (λ (y : List ℕ). Taken endᵢ rᵢ.sending y kind.Idle [] []) (sym isᵢ) (idle_taken endᵢ rᵢ.sending d (idle endᵢ rᵢ.sending) idle-writes.written)
+    is-takenᵢ = subst (λ (y : List ℕ). Taken endᵢ rᵢ.sending y kind.Idle [] []) (sym isᵢ) (idle_taken endᵢ rᵢ.sending d (idle endᵢ rᵢ.sending) idle_writes.written)
 
     abbrev cameᵢ : Left
     cameᵢ = takes called (arrival lᵢ h rᵢ random idle_time_holds spare k u at e)
 
     module _ (link : Link h t i k u j) (watch : watch_over (record_at u j) at ≡ false) (got : Done cameᵢ) where
-      idle-there : Does cameᵢ e j (taking_idle (record_at u j) at)
-      idle-there = taken_there lᵢ h k t u i j at random idle_time_holds spare e kind.Idle [] [] link watch is-takenᵢ got
+      idle_there : Does cameᵢ e j (taking_idle (record_at u j) at)
+      idle_there = taken_there lᵢ h k t u i j at random idle_time_holds spare e kind.Idle [] [] link watch is-takenᵢ got
 
       movedᵢ : Moved t lᵢ.table i time u cameᵢ.table j at
       unfolding taken
@@ -309,8 +309,8 @@ module _ (h k : Head) (t u : List Record) (i j time at random : ℕ) (idle_time_
           record {
             here = rw (others_unchanged.count (Tick i) h t time d) link.here;
             there = rw (others_unchanged.count (Received (route_from h.own rᵢ) random idle_time_holds (telegram_of lᵢ) spare) k u at e) link.there;
-            left = left_by (Tick i) h t time d cᵢ ∙ idle-writes.left;
-            taken_is = idle-there.leaves;
+            left = left_by (Tick i) h t time d cᵢ ∙ idle_writes.left;
+            taken_is = idle_there.leaves;
           }
 
 idle_taken_by : (n : Nodes) (i j : ℕ) (m : Moment) → Towards n i j → ticked (record_at n.table i) m.sent_at_holds ≡ SendIdle → Arrives called n i j (Tick i) m
@@ -318,7 +318,7 @@ idle_taken_by : (n : Nodes) (i j : ℕ) (m : Moment) → Towards n i j → ticke
 idle_taken_by n i j m link verdict ok =
     let watch = in_watch (record_at n.table' j) m.received_at_holds ok.in_time in
     let there =
-    idle-there n.head n.head' n.table n.table' i j m.sent_at_holds m.received_at_holds m.random m.idle_time_holds m.net m.buffer m.buffer' ok.done verdict (linked n i j link) watch ok.taken in (
+    idle_there n.head n.head' n.table n.table' i j m.sent_at_holds m.received_at_holds m.random m.idle_time_holds m.net m.buffer m.buffer' ok.done verdict (linked n i j link) watch ok.taken in (
       (tick_does n.head n.table i m.sent_at_holds m.buffer SendIdle verdict ok.done).writes,
       (
         ap (λ (y : Event). (happened y).event) there.says,
@@ -374,14 +374,14 @@ open_judged : (r : Record) (own time : ℕ) (t : List ℕ) → r.phase ≡ 5 →
 unfolding judged passed run_out_verdict pick
 open_judged r own time t p = by (run_out r time) (check_of (end_of r own) (expected_now r) t)
   where
-    in-phase : (f : ℕ → Verdict) → OpenVerdict (f 5) → OpenVerdict (f r.phase)
-    in-phase f = subst (λ (y : ℕ). OpenVerdict (f y)) (sym p)
+    in_phase : (f : ℕ → Verdict) → OpenVerdict (f 5) → OpenVerdict (f r.phase)
+    in_phase f = subst (λ (y : ℕ). OpenVerdict (f y)) (sym p)
 
     by : (b : Bool) (c : Check) → OpenVerdict (pick b (run_out_verdict r.phase) (checked_by c r t))
-    by true c = in-phase run_out_verdict (closes_it 0x05 false refl)
-    by false Passes = in-phase (λ (y : ℕ). narrowed (ruled (row_of (kind_of_command (command_of t))) y) r t) (narrowed_open (kind_of_command (command_of t)) r t)
-    by false (Failed c) = in-phase (ruled Incorrect-rcv-1st) (closes_it 0x06 false refl)
-    by false (Refused n) = in-phase (ruled Incorrect-rcv-1st) (closes_it 0x06 false refl)
+    by true c = in_phase run_out_verdict (closes_it 0x05 false refl)
+    by false Passes = in_phase (λ (y : ℕ). narrowed (ruled (row_of (kind_of_command (command_of t))) y) r t) (narrowed_open (kind_of_command (command_of t)) r t)
+    by false (Failed c) = in_phase (ruled Incorrect-rcv-1st) (closes_it 0x06 false refl)
+    by false (Refused n) = in_phase (ruled Incorrect-rcv-1st) (closes_it 0x06 false refl)
 
 -- a tick closes, writes an idle telegram, or nothing
 data OpenTick (v : Verdict) : Type 0 where
@@ -467,8 +467,8 @@ module _ (n : Nodes) (i j : ℕ) (c : Call) (m : Moment) (place : place_of c n.t
         (call_does c n.head n.table m.sent_at_holds m.buffer _ g s.does)
 
     -- the telegram is taken by the mirrored end
-    is-taken₅ : Taken (end_of (record_at n.table i) n.head.own) (record_at n.table i).sending (telegram_of (given called n c m)) kind.Disconnect (pick last 0 1 ∷ reason ∷ []) text
-    is-taken₅ =
+    is_taken₅ : Taken (end_of (record_at n.table i) n.head.own) (record_at n.table i).sending (telegram_of (given called n c m)) kind.Disconnect (pick last 0 1 ∷ reason ∷ []) text
+    is_taken₅ =
         subst (λ (z : List ℕ). Taken (end_of (record_at n.table i) n.head.own) (record_at n.table i).sending z kind.Disconnect (pick last 0 1 ∷ reason ∷ []) text)
         (sym (told (given called n c m) m.buffer i _ closed_here))
         (disconnect_taken (end_of (record_at n.table i) n.head.own) (record_at n.table i).sending (pick last 0 1) reason text m.buffer _ bytes
@@ -479,12 +479,12 @@ module _ (n : Nodes) (i j : ℕ) (c : Call) (m : Moment) (place : place_of c n.t
         let q = record_at n.table' j in
         let there =
         taken_there (given called n c m) n.head n.head' n.table n.table' i j m.received_at_holds m.random m.idle_time_holds m.net m.buffer' kind.Disconnect (pick last 0 1 ∷ reason ∷ []) text
-        (linked n i j link) (in_watch q m.received_at_holds ok.in_time) is-taken₅ ok.taken in
+        (linked n i j link) (in_watch q m.received_at_holds ok.in_time) is_taken₅ ok.taken in
         record {
           here = closed_here;
           there =
               subst (λ (b : Bool). ClosedByPartner (got called n i c m) n.table' m.buffer' j reason b) (by_type last)
-              (subst (λ (vs : List ℕ). ClosedByPartner (got called n i c m) n.table' m.buffer' j (get_or vs 1 0) (eqb (get_or vs 0 0) 0)) is-taken₅.fields there);
+              (subst (λ (vs : List ℕ). ClosedByPartner (got called n i c m) n.table' m.buffer' j (get_or vs 1 0) (eqb (get_or vs 0 0) 0)) is_taken₅.fields there);
         }
 
 pub close_closes : CloseCloses called
@@ -541,29 +541,29 @@ module _ (n : Nodes) (i j : ℕ) (c : Call) (m : Moment) (place : place_of c n.t
       writing c n.table i (record_at n.table (place_of c n.table)) n.head.own m.sent_at_holds m.buffer place (rw place link.open_to.open_here) g₀.number
       (λ z. some (ap (λ (y : Answer). y.telegram) g₀.answer ∙ z))
 
-  taken-by : Bytes (net_of c) → How → IsTaken called n i j c m
-  taken-by bytes (by_sending low net e) =
+  taken_by : Bytes (net_of c) → How → IsTaken called n i j c m
+  taken_by bytes (by_sending low net e) =
       let s = sent_comes_up n i j low net m (subst (λ (y : Call). Bytes (net_of y)) e bytes) link (rw e at ok) in
-      rw e (as_data low net refl (send-does n.head n.table i m.sent_at_holds m.buffer low net (rw e at ok.done)).writes s.0 s.1)
-  taken-by bytes (by_ticking e v) =
+      rw e (as_data low net refl (send_does n.head n.table i m.sent_at_holds m.buffer low net (rw e at ok.done)).writes s.0 s.1)
+  taken_by bytes (by_ticking e v) =
       let s = idle_taken_by n i j m link (subst (λ (y : ℕ). ticked (record_at n.table y) m.sent_at_holds ≡ SendIdle) place v) (rw e at ok) in rw e (as_idle refl s.0 s.1.0 s.1.1)
-  taken-by bytes (by_closing reason last s) =
+  taken_by bytes (by_closing reason last s) =
       let both = closes n i j c m place reason last (text_of c) text g₀ s link ok in as_disconnect reason last both.here.writes both
 
-  disconnected-by : (given called n c m).outcome.answer.telegram ≡ 5 → How → (reason : ℕ) × ((last : Bool) × ClosedWith called n i j c m reason last (text_of c))
-  disconnected-by five (by_sending low net e) =
-      let y : ◌≡◌ {A = ℕ} 7 5 = sym (send-does n.head n.table i m.sent_at_holds m.buffer low net (rw e at ok.done)).writes ∙ (rw e at five) in absurd (omega arith)
-  disconnected-by five (by_ticking e v) =
+  disconnected_by : (given called n c m).outcome.answer.telegram ≡ 5 → How → (reason : ℕ) × ((last : Bool) × ClosedWith called n i j c m reason last (text_of c))
+  disconnected_by five (by_sending low net e) =
+      let y : ◌≡◌ {A = ℕ} 7 5 = sym (send_does n.head n.table i m.sent_at_holds m.buffer low net (rw e at ok.done)).writes ∙ (rw e at five) in absurd (omega arith)
+  disconnected_by five (by_ticking e v) =
       let idles = subst (λ (y : ℕ). ticked (record_at n.table y) m.sent_at_holds ≡ SendIdle) place v in
       let y : ◌≡◌ {A = ℕ} 6 5 = sym (tick_does n.head n.table i m.sent_at_holds m.buffer SendIdle idles (rw e at ok.done)).writes ∙ (rw e at five) in absurd (omega arith)
-  disconnected-by five (by_closing reason last s) = (reason, (last, closes n i j c m place reason last (text_of c) text g₀ s link ok))
+  disconnected_by five (by_closing reason last s) = (reason, (last, closes n i j c m place reason last (text_of c) text g₀ s link ok))
 
 pub written_is_taken : WrittenIsTaken called
-written_is_taken n i j c m place text net link ok some = taken-by n i j c m place text link ok net (how n i j c m place text link ok some)
+written_is_taken n i j c m place text net link ok some = taken_by n i j c m place text link ok net (how n i j c m place text link ok some)
 
 pub disconnect_closes : DisconnectCloses called
 disconnect_closes n i j c m place text link ok five =
-    disconnected-by n i j c m place text link ok five (how n i j c m place text link ok (λ z. let y : ◌≡◌ {A = ℕ} 0 5 = sym z ∙ five in omega arith))
+    disconnected_by n i j c m place text link ok five (how n i j c m place text link ok (λ z. let y : ◌≡◌ {A = ℕ} 0 5 = sym z ∙ five in omega arith))
 
 -- Nothing is refused
 
@@ -592,7 +592,7 @@ nothing_refused =
           let p = link.open_to.open_here in
           let done =
           done_by_holds (Send i low net) n.head n.table m.sent_at_holds m.buffer ok.table_here ok.room_here ok.time_here refl link.here (open_live r p) (eq-eqb r.phase 5 p) fits in
-          (done, taken_done n i j (Send i low net) m kind.Data [] net link ok (is-taken n.head n.head' n.table n.table' i j low m.sent_at_holds m.received_at_holds m.random m.idle_time_holds net m.net m.buffer m.buffer' bytes done));
+          (done, taken_done n i j (Send i low net) m kind.Data [] net link ok (is_taken n.head n.head' n.table n.table' i j low m.sent_at_holds m.received_at_holds m.random m.idle_time_holds net m.net m.buffer m.buffer' bytes done));
       by_tick = λ n i j m link ok due.
           let r = record_at n.table i in
           let p = link.open_to.open_here in
@@ -608,7 +608,7 @@ nothing_refused =
           done_by_holds (Close i type reason text) n.head n.table m.sent_at_holds m.buffer ok.table_here ok.room_here ok.time_here refl link.here (open_live r p) (open_closes r p) fits in
           let g = carried (Close i type reason text) n.head n.table m.sent_at_holds m.buffer done in
           let s = close_closes_step r n.head.own type reason text m.buffer g.number in
-          (done, taken_done n i j (Close i type reason text) m kind.Disconnect _ text link ok (is-taken₅ n i j (Close i type reason text) m refl reason (eqb type 0) text bytes g s));
+          (done, taken_done n i j (Close i type reason text) m kind.Disconnect _ text link ok (is_taken₅ n i j (Close i type reason text) m refl reason (eqb type 0) text bytes g s));
     }
 
 pub isolation : Isolation called

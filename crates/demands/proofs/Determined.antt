@@ -137,24 +137,24 @@ module _ (link : Link) (first : Demand1 link) (others : OthersUnchanged link) (e
     numbers = first.first_in_the_order c h t time d ∙ sym (first_answered c h t time d)
 
     -- one that is refused
-    refused-agree : (Done (called c h t time d) → ⊥) → Agree
-    refused-agree other =
+    refused_agree : (Done (called c h t time d) → ⊥) → Agree
+    refused_agree other =
         let a = first.refused_changes_nothing c h t time d (λ z. other (sym numbers ∙ z)) in
         let b = refused_changes_nothing c h t time d other in
         same_left _ _ _ _ _ _ (a.0 ∙ ap (λ (n : ℕ). refused_outcome n h) numbers ∙ sym b.0) (a.1.0 ∙ sym b.1.0) (a.1.1 ∙ sym b.1.1)
 
     -- one that is done, and of which both name the same effect
     module _ (done : Done (called c h t time d)) where
-      done-there : Done (link c h t time d)
-      done-there = numbers ∙ done
+      done_there : Done (link c h t time d)
+      done_there = numbers ∙ done
 
-      effect-agrees : (place : ℕ) (x : Effect) → place ≡ place_of c t → (Done (link c h t time d) → Does (link c h t time d) d place x)
+      effect_agrees : (place : ℕ) (x : Effect) → place ≡ place_of c t → (Done (link c h t time d) → Does (link c h t time d) d place x)
           → (Done (called c h t time d) → Does (called c h t time d) d place x) → Agree
-      effect-agrees place x here f g =
-          let a = f done-there in
+      effect_agrees place x here f g =
+          let a = f done_there in
           let b = g done in
           same_left _ _ _ _ _ _
-          (same_outcome _ _ _ _ _ _ _ _ _ _ (first.done_sets_the_time c h t time d done-there ∙ sym (done_sets_the_time c h t time d done)) numbers
+          (same_outcome _ _ _ _ _ _ _ _ _ _ (first.done_sets_the_time c h t time d done_there ∙ sym (done_sets_the_time c h t time d done)) numbers
           (a.writes ∙ sym b.writes) (a.size ∙ sym b.size) (a.says ∙ sym b.says))
           (same_table _ _ (others.count c h t time d ∙ sym (others_unchanged.count c h t time d)) (λ i. by i (same_number i place) a.leaves b.leaves))
           (a.buffer ∙ sym b.buffer)
@@ -174,31 +174,31 @@ module _ (link : Link) (first : Demand1 link) (others : OthersUnchanged link) (e
     abbrev Ticks : Type 0
     Ticks = link (Tick i) h t time d ≡ called (Tick i) h t time d
 
-    ticks-by : (x : Effect) → (Done (link (Tick i) h t time d) → Does (link (Tick i) h t time d) d i x) → (Done (called (Tick i) h t time d) → Does (called (Tick i) h t time d) d i x) → Ticks
-    ticks-by x f g = effect-agrees (Tick i) h t time d done i x refl f g
+    ticks_by : (x : Effect) → (Done (link (Tick i) h t time d) → Does (link (Tick i) h t time d) d i x) → (Done (called (Tick i) h t time d) → Does (called (Tick i) h t time d) d i x) → Ticks
+    ticks_by x f g = effect_agrees (Tick i) h t time d done i x refl f g
 
     -- an answer awaited
-    waiting-tick : (phase reason : ℕ) (last : Bool) → LateCloses link phase reason last → LateCloses called phase reason last → 2 ≤ phase → phase ≤ 4 → r.phase ≡ phase → Ticks
-    waiting-tick phase reason last theirs ours low high p = by (later (r.sent_at + 5000) time)
+    waiting_tick : (phase reason : ℕ) (last : Bool) → LateCloses link phase reason last → LateCloses called phase reason last → 2 ≤ phase → phase ≤ 4 → r.phase ≡ phase → Ticks
+    waiting_tick phase reason last theirs ours low high p = by (later (r.sent_at + 5000) time)
       where
         by : (r.sent_at + 5000 < time) ⊎ (time ≤ r.sent_at + 5000) → Ticks
-        by (inl over) = ticks-by _ (theirs (Tick i) h t i time d (tick refl) p over) (ours (Tick i) h t i time d (tick refl) p over)
+        by (inl over) = ticks_by _ (theirs (Tick i) h t i time d (tick refl) p over) (ours (Tick i) h t i time d (tick refl) p over)
         by (inr ok) =
             let listens : Listens r time = set_up (omega arith) (omega arith) ok in
-            ticks-by _ (ends.ticks_in_time.early h t i time d listens (λ five. absurd (omega arith))) (demand_2_one_end.ticks_in_time.early h t i time d listens (λ five. absurd (omega arith)))
+            ticks_by _ (ends.ticks_in_time.early h t i time d listens (λ five. absurd (omega arith))) (demand_2_one_end.ticks_in_time.early h t i time d listens (λ five. absurd (omega arith)))
 
-    open-tick : r.phase ≡ 5 → Ticks
-    open-tick p = watch (same_number r.watched 0) (later (r.taken_at + r.watched) time)
+    open_tick : r.phase ≡ 5 → Ticks
+    open_tick p = watch (same_number r.watched 0) (later (r.taken_at + r.watched) time)
       where
         quiet : InTime r time → (Due r time → ⊥) → Ticks
         quiet ok none =
-            ticks-by _ (ends.ticks_in_time.early h t i time d (open_here p ok) (λ p. none)) (demand_2_one_end.ticks_in_time.early h t i time d (open_here p ok) (λ p. none))
+            ticks_by _ (ends.ticks_in_time.early h t i time d (open_here p ok) (λ p. none)) (demand_2_one_end.ticks_in_time.early h t i time d (open_here p ok) (λ p. none))
 
         half : InTime r time → (r.declared ≡ 0 → ⊥) → (2 * time < 2 * r.sent_at + r.declared) ⊎ (2 * r.sent_at + r.declared ≤ 2 * time) → Ticks
         half ok some (inl l) = quiet ok (λ due. let h = due.half in omega arith)
         half ok some (inr l) =
             let due : Due r time = record { declares = some; half = l; in_time = ok } in
-            ticks-by _ (ends.ticks_in_time.due h t i time d p due) (demand_2_one_end.ticks_in_time.due h t i time d p due)
+            ticks_by _ (ends.ticks_in_time.due h t i time d p due) (demand_2_one_end.ticks_in_time.due h t i time d p due)
 
         idle : InTime r time → EitherWay (r.declared ≡ 0) → Ticks
         idle ok (inl none) = quiet ok (λ due. due.declares none)
@@ -207,16 +207,16 @@ module _ (link : Link) (first : Demand1 link) (others : OthersUnchanged link) (e
         watch : EitherWay (r.watched ≡ 0) → (r.taken_at + r.watched < time) ⊎ (time ≤ r.taken_at + r.watched) → Ticks
         watch (inl none) l = idle (λ some. absurd (some none)) (same_number r.declared 0)
         watch (inr some) (inl over) =
-            ticks-by _ (ends.silence_closes_here (Tick i) h t i time d (tick refl) p some over) (demand_2_one_end.silence_closes_here (Tick i) h t i time d (tick refl) p some over)
+            ticks_by _ (ends.silence_closes_here (Tick i) h t i time d (tick refl) p some over) (demand_2_one_end.silence_closes_here (Tick i) h t i time d (tick refl) p some over)
         watch (inr some) (inr ok) = idle (λ some. ok) (same_number r.declared 0)
 
-    tick-agrees : 1 ≤ r.phase → r.phase ≤ 5 → Ticks
-    tick-agrees low high =
+    tick_agrees : 1 ≤ r.phase → r.phase ≤ 5 → Ticks
+    tick_agrees low high =
         phases (λ (q : ℕ). r.phase ≡ q → Ticks) r.phase low high
-        (λ p. ticks-by _ (ends.ticks_in_time.closed h t i time d p) (demand_2_one_end.ticks_in_time.closed h t i time d p))
-        (waiting-tick 2 0x02 false ends.late_answer_closes.confirm demand_2_one_end.late_answer_closes.confirm (omega arith) (omega arith))
-        (waiting-tick 3 0x03 true ends.late_answer_closes.authentication demand_2_one_end.late_answer_closes.authentication (omega arith) (omega arith))
-        (waiting-tick 4 0x03 true ends.late_answer_closes.acknowledgement demand_2_one_end.late_answer_closes.acknowledgement (omega arith) (omega arith)) open-tick refl
+        (λ p. ticks_by _ (ends.ticks_in_time.closed h t i time d p) (demand_2_one_end.ticks_in_time.closed h t i time d p))
+        (waiting_tick 2 0x02 false ends.late_answer_closes.confirm demand_2_one_end.late_answer_closes.confirm (omega arith) (omega arith))
+        (waiting_tick 3 0x03 true ends.late_answer_closes.authentication demand_2_one_end.late_answer_closes.authentication (omega arith) (omega arith))
+        (waiting_tick 4 0x03 true ends.late_answer_closes.acknowledgement demand_2_one_end.late_answer_closes.acknowledgement (omega arith) (omega arith)) open_tick refl
 
   -- A receipt
 
@@ -230,8 +230,8 @@ module _ (link : Link) (first : Demand1 link) (others : OthersUnchanged link) (e
     abbrev Takes : Type 0
     Takes = takes link x ≡ takes called x
 
-    takes-by : (e : Effect) → ReceiptDoes link x e → ReceiptDoes called x e → Takes
-    takes-by e f g = effect-agrees c x.head x.table x.time x.buffer done (place_for x) e refl f g
+    takes_by : (e : Effect) → ReceiptDoes link x e → ReceiptDoes called x e → Takes
+    takes_by e f g = effect_agrees c x.head x.table x.time x.buffer done (place_for x) e refl f g
 
     passing? : EitherWay (Passing x)
     passing? = passes_or_not (check_of (end_of q x.head.own) (expected_now q) x.telegram)
@@ -240,136 +240,136 @@ module _ (link : Link) (first : Demand1 link) (others : OthersUnchanged link) (e
     looks = receipt x.route x.random x.idle_time_holds x.telegram x.net refl refl
 
     -- closed
-    closed-takes : q.phase ≡ 1 → Takes
-    closed-takes p = by passing? (same_kind (kind_of x) kind.Request) (true_or_false (good_version x.telegram))
+    closed_takes : q.phase ≡ 1 → Takes
+    closed_takes p = by passing? (same_kind (kind_of x) kind.Request) (true_or_false (good_version x.telegram))
       where
         drop : (GoodRequest x → ⊥) → Takes
-        drop bad = takes-by _ (ends.when_closed.drops x p bad) (demand_2_one_end.when_closed.drops x p bad)
+        drop bad = takes_by _ (ends.when_closed.drops x p bad) (demand_2_one_end.when_closed.drops x p bad)
 
         by : EitherWay (Passing x) → EitherWay (kind_of x ≡ kind.Request) → (good_version x.telegram ≡ true) ⊎ (good_version x.telegram ≡ false) → Takes
         by (inl a) (inl b) (inl v) =
             let good : GoodRequest x = record { passes = a; kind = b; version = v } in
-            takes-by _ (ends.when_closed.confirms x p good) (demand_2_one_end.when_closed.confirms x p good)
+            takes_by _ (ends.when_closed.confirms x p good) (demand_2_one_end.when_closed.confirms x p good)
         by (inl a) (inl b) (inr v) = drop (λ good. let n : ◌≡◌ {A = Bool} true false = sym good.version ∙ v in let z : ◌≡◌ {A = ℕ} 0 1 = cc in omega arith)
         by (inl a) (inr b) v = drop (λ good. b good.kind)
         by (inr a) b v = drop (λ good. a good.passes)
 
     -- incorrect, or a disconnect of the partner: in all the other phases
-    incorrect-takes : Listens q x.time → (Passing x → ⊥) → Takes
-    incorrect-takes listens n = takes-by _ (ends.incorrect_closes_here x listens n) (demand_2_one_end.incorrect_closes_here x listens n)
+    incorrect_takes : Listens q x.time → (Passing x → ⊥) → Takes
+    incorrect_takes listens n = takes_by _ (ends.incorrect_closes_here x listens n) (demand_2_one_end.incorrect_closes_here x listens n)
 
-    disconnect-takes : Listens q x.time → Passing x → kind_of x ≡ kind.Disconnect → Takes
-    disconnect-takes listens a k = takes-by _ (ends.partner_closes_here x listens a k) (demand_2_one_end.partner_closes_here x listens a k)
+    disconnect_takes : Listens q x.time → Passing x → kind_of x ≡ kind.Disconnect → Takes
+    disconnect_takes listens a k = takes_by _ (ends.partner_closes_here x listens a k) (demand_2_one_end.partner_closes_here x listens a k)
 
     -- an answer awaited: late, or in time
-    waiting-takes : (phase reason : ℕ) (last : Bool) → LateCloses link phase reason last → LateCloses called phase reason last → q.phase ≡ phase
+    waiting_takes : (phase reason : ℕ) (last : Bool) → LateCloses link phase reason last → LateCloses called phase reason last → q.phase ≡ phase
         → (Awaiting q x.time phase → Takes) → Takes
-    waiting-takes phase reason last theirs ours p in_time = by (later (q.sent_at + 5000) x.time)
+    waiting_takes phase reason last theirs ours p in_time = by (later (q.sent_at + 5000) x.time)
       where
         by : (q.sent_at + 5000 < x.time) ⊎ (x.time ≤ q.sent_at + 5000) → Takes
         by (inl over) =
-            takes-by _ (theirs c x.head x.table (place_for x) x.time x.buffer looks p over) (ours c x.head x.table (place_for x) x.time x.buffer looks p over)
+            takes_by _ (theirs c x.head x.table (place_for x) x.time x.buffer looks p over) (ours c x.head x.table (place_for x) x.time x.buffer looks p over)
         by (inr ok) = in_time (record { phase_is = p; in_time = ok })
 
     -- a confirm
-    confirm-takes : Awaiting q x.time 2 → Takes
-    confirm-takes w = by passing? (same_kind (kind_of x) kind.Confirm) (same_kind (kind_of x) kind.Disconnect) (true_or_false (good_version x.telegram))
+    confirm_takes : Awaiting q x.time 2 → Takes
+    confirm_takes w = by passing? (same_kind (kind_of x) kind.Confirm) (same_kind (kind_of x) kind.Disconnect) (true_or_false (good_version x.telegram))
       where
         listens : Listens q x.time
         listens = let p = w.phase_is in set_up (omega arith) (omega arith) w.in_time
 
         by : EitherWay (Passing x) → EitherWay (kind_of x ≡ kind.Confirm) → EitherWay (kind_of x ≡ kind.Disconnect)
             → (good_version x.telegram ≡ true) ⊎ (good_version x.telegram ≡ false) → Takes
-        by (inr n) k l v = incorrect-takes listens n
-        by (inl a) (inl k) l (inl v) = takes-by _ (ends.confirm_awaited.authenticates x w a k v) (demand_2_one_end.confirm_awaited.authenticates x w a k v)
-        by (inl a) (inl k) l (inr v) = takes-by _ (ends.confirm_awaited.other_version x w a k v) (demand_2_one_end.confirm_awaited.other_version x w a k v)
-        by (inl a) (inr k) (inl l) v = disconnect-takes listens a l
-        by (inl a) (inr k) (inr l) v = takes-by _ (ends.confirm_awaited.ignores x w a k l) (demand_2_one_end.confirm_awaited.ignores x w a k l)
+        by (inr n) k l v = incorrect_takes listens n
+        by (inl a) (inl k) l (inl v) = takes_by _ (ends.confirm_awaited.authenticates x w a k v) (demand_2_one_end.confirm_awaited.authenticates x w a k v)
+        by (inl a) (inl k) l (inr v) = takes_by _ (ends.confirm_awaited.other_version x w a k v) (demand_2_one_end.confirm_awaited.other_version x w a k v)
+        by (inl a) (inr k) (inl l) v = disconnect_takes listens a l
+        by (inl a) (inr k) (inr l) v = takes_by _ (ends.confirm_awaited.ignores x w a k l) (demand_2_one_end.confirm_awaited.ignores x w a k l)
 
     -- an authentication or an acknowledgement
-    answer-takes : (phase n : ℕ) (k : Kind) (right : Receipt → Effect) → AnswerAwaited link phase n k right → AnswerAwaited called phase n k right → 3 ≤ phase → phase ≤ 4
+    answer_takes : (phase n : ℕ) (k : Kind) (right : Receipt → Effect) → AnswerAwaited link phase n k right → AnswerAwaited called phase n k right → 3 ≤ phase → phase ≤ 4
         → Awaiting q x.time phase → Takes
-    answer-takes phase n k right theirs ours low high w =
+    answer_takes phase n k right theirs ours low high w =
         by passing? (same_kind (kind_of x) k) (same_kind (kind_of x) kind.Disconnect) (same_number (authentication_of x.telegram) (authentication_number q.level (back n q.sending)))
       where
         listens : Listens q x.time
         listens = let p = w.phase_is in set_up (omega arith) (omega arith) w.in_time
 
         by : EitherWay (Passing x) → EitherWay (kind_of x ≡ k) → EitherWay (kind_of x ≡ kind.Disconnect) → EitherWay (ReturnsOurs x n) → Takes
-        by (inr none) b l v = incorrect-takes listens none
-        by (inl a) (inl b) l (inl v) = takes-by _ (theirs.answers x w a b v) (ours.answers x w a b v)
-        by (inl a) (inl b) l (inr v) = takes-by _ (theirs.wrong_number x w a b v) (ours.wrong_number x w a b v)
-        by (inl a) (inr b) (inl l) v = disconnect-takes listens a l
-        by (inl a) (inr b) (inr l) v = takes-by _ (theirs.another x w a b l) (ours.another x w a b l)
+        by (inr none) b l v = incorrect_takes listens none
+        by (inl a) (inl b) l (inl v) = takes_by _ (theirs.answers x w a b v) (ours.answers x w a b v)
+        by (inl a) (inl b) l (inr v) = takes_by _ (theirs.wrong_number x w a b v) (ours.wrong_number x w a b v)
+        by (inl a) (inr b) (inl l) v = disconnect_takes listens a l
+        by (inl a) (inr b) (inr l) v = takes_by _ (theirs.another x w a b l) (ours.another x w a b l)
 
     -- open
-    open-takes : q.phase ≡ 5 → Takes
-    open-takes p = watch (same_number q.watched 0) (later (q.taken_at + q.watched) x.time)
+    open_takes : q.phase ≡ 5 → Takes
+    open_takes p = watch (same_number q.watched 0) (later (q.taken_at + q.watched) x.time)
       where
         anew : ForAnOpen x → Passing x → SetsUpAnew (kind_of x) → Takes
-        anew o a k = takes-by _ (ends.when_open.set_up_anew x o a k) (demand_2_one_end.when_open.set_up_anew x o a k)
+        anew o a k = takes_by _ (ends.when_open.set_up_anew x o a k) (demand_2_one_end.when_open.set_up_anew x o a k)
 
         taken : ForAnOpen x → Passing x → (k : Kind) → kind_of x ≡ k → Takes
         taken o a kind.Request e = anew o a (inl e)
         taken o a kind.Confirm e = anew o a (inr (inl e))
         taken o a kind.Authentication e = anew o a (inr (inr (inl e)))
         taken o a kind.Acknowledgement e = anew o a (inr (inr (inr e)))
-        taken o a kind.Disconnect e = disconnect-takes (open_here p o.in_time) a e
-        taken o a kind.Idle e = takes-by _ (ends.when_open.takes_idle x o a e) (demand_2_one_end.when_open.takes_idle x o a e)
-        taken o a kind.Data e = takes-by _ (ends.when_open.hands_up_holds x o a e) (demand_2_one_end.when_open.hands_up_holds x o a e)
+        taken o a kind.Disconnect e = disconnect_takes (open_here p o.in_time) a e
+        taken o a kind.Idle e = takes_by _ (ends.when_open.takes_idle x o a e) (demand_2_one_end.when_open.takes_idle x o a e)
+        taken o a kind.Data e = takes_by _ (ends.when_open.hands_up_holds x o a e) (demand_2_one_end.when_open.hands_up_holds x o a e)
         taken o a kind.Unknown e = absurd (unknown_is_not (subst (λ (k : Kind). known k ≡ true) e (kind_known x a)))
 
         by : InTime q x.time → EitherWay (Passing x) → Takes
-        by ok (inr n) = incorrect-takes (open_here p ok) n
+        by ok (inr n) = incorrect_takes (open_here p ok) n
         by ok (inl a) = taken (record { open_here = p; in_time = ok }) a (kind_of x) refl
 
         watch : EitherWay (q.watched ≡ 0) → (q.taken_at + q.watched < x.time) ⊎ (x.time ≤ q.taken_at + q.watched) → Takes
         watch (inl none) l = by (λ some. absurd (some none)) passing?
         watch (inr some) (inl over) =
-            takes-by _ (ends.silence_closes_here c x.head x.table (place_for x) x.time x.buffer looks p some over)
+            takes_by _ (ends.silence_closes_here c x.head x.table (place_for x) x.time x.buffer looks p some over)
             (demand_2_one_end.silence_closes_here c x.head x.table (place_for x) x.time x.buffer looks p some over)
         watch (inr some) (inr ok) = by (λ some. ok) passing?
 
-    receipt-agrees : 1 ≤ q.phase → q.phase ≤ 5 → Takes
-    receipt-agrees low high =
-        phases (λ (y : ℕ). q.phase ≡ y → Takes) q.phase low high closed-takes
-        (λ p. waiting-takes 2 0x02 false ends.late_answer_closes.confirm demand_2_one_end.late_answer_closes.confirm p confirm-takes)
+    receipt_agrees : 1 ≤ q.phase → q.phase ≤ 5 → Takes
+    receipt_agrees low high =
+        phases (λ (y : ℕ). q.phase ≡ y → Takes) q.phase low high closed_takes
+        (λ p. waiting_takes 2 0x02 false ends.late_answer_closes.confirm demand_2_one_end.late_answer_closes.confirm p confirm_takes)
         (λ p.
-        waiting-takes 3 0x03 true ends.late_answer_closes.authentication demand_2_one_end.late_answer_closes.authentication p
-        (answer-takes 3 1 kind.Authentication _ ends.authentication_awaited demand_2_one_end.authentication_awaited (omega arith) (omega arith)))
+        waiting_takes 3 0x03 true ends.late_answer_closes.authentication demand_2_one_end.late_answer_closes.authentication p
+        (answer_takes 3 1 kind.Authentication _ ends.authentication_awaited demand_2_one_end.authentication_awaited (omega arith) (omega arith)))
         (λ p.
-        waiting-takes 4 0x03 true ends.late_answer_closes.acknowledgement demand_2_one_end.late_answer_closes.acknowledgement p
-        (answer-takes 4 2 kind.Acknowledgement _ ends.acknowledgement_awaited demand_2_one_end.acknowledgement_awaited (omega arith) (omega arith)))
-        open-takes refl
+        waiting_takes 4 0x03 true ends.late_answer_closes.acknowledgement demand_2_one_end.late_answer_closes.acknowledgement p
+        (answer_takes 4 2 kind.Acknowledgement _ ends.acknowledgement_awaited demand_2_one_end.acknowledgement_awaited (omega arith) (omega arith)))
+        open_takes refl
 
   -- Any call that is done
 
-  done-agrees : (c : Call) (h : Head) (t : List Record) (time : ℕ) (d : List ℕ) → Done (called c h t time d) → link c h t time d ≡ called c h t time d
+  done_agrees : (c : Call) (h : Head) (t : List Record) (time : ℕ) (d : List ℕ) → Done (called c h t time d) → link c h t time d ≡ called c h t time d
   unfolding received_refusal tick_refusal
-  done-agrees (Open i random idle_time_holds net) h t time d done =
-      effect-agrees (Open i random idle_time_holds net) h t time d done i _ refl (ends.calls_of_ours.opens i random idle_time_holds net h t time d) (demand_2_one_end.calls_of_ours.opens i random idle_time_holds net h t time d)
-  done-agrees (Close i type reason text) h t time d done =
-      effect-agrees (Close i type reason text) h t time d done i _ refl (ends.calls_of_ours.closes i type reason text h t time d) (demand_2_one_end.calls_of_ours.closes i type reason text h t time d)
-  done-agrees (Send i low net) h t time d done =
-      effect-agrees (Send i low net) h t time d done i _ refl (ends.calls_of_ours.sends i low net h t time d) (demand_2_one_end.calls_of_ours.sends i low net h t time d)
-  done-agrees (Received w random idle_time_holds telegram net) h t time d done =
+  done_agrees (Open i random idle_time_holds net) h t time d done =
+      effect_agrees (Open i random idle_time_holds net) h t time d done i _ refl (ends.calls_of_ours.opens i random idle_time_holds net h t time d) (demand_2_one_end.calls_of_ours.opens i random idle_time_holds net h t time d)
+  done_agrees (Close i type reason text) h t time d done =
+      effect_agrees (Close i type reason text) h t time d done i _ refl (ends.calls_of_ours.closes i type reason text h t time d) (demand_2_one_end.calls_of_ours.closes i type reason text h t time d)
+  done_agrees (Send i low net) h t time d done =
+      effect_agrees (Send i low net) h t time d done i _ refl (ends.calls_of_ours.sends i low net h t time d) (demand_2_one_end.calls_of_ours.sends i low net h t time d)
+  done_agrees (Received w random idle_time_holds telegram net) h t time d done =
       let x : Receipt = record { route = w; random = random; idle_time_holds = idle_time_holds; telegram = telegram; net = net; head = h; table = t; time = time; buffer = d } in
       let g = carried (Received w random idle_time_holds telegram net) h t time d done in
       let n = answers.by_received (record_for x) h.own time random idle_time_holds telegram net d in
       let p = live_phase (record_for x) h.own (received_refusal (record_for x) h.own idle_time_holds telegram net d) _ _ _ _ refl (sym n ∙ g.number) in
-      receipt-agrees x done p.0 p.1
-  done-agrees (Tick i) h t time d done =
+      receipt_agrees x done p.0 p.1
+  done_agrees (Tick i) h t time d done =
       let g = carried (Tick i) h t time d done in
       let n = answers.by_tick (record_at t i) h.own time d in
       let p = live_phase (record_at t i) h.own (tick_refusal (record_at t i) h.own d) _ _ _ _ refl (sym n ∙ g.number) in
-      tick-agrees h t i time d done p.0 p.1
+      tick_agrees h t i time d done p.0 p.1
 
 pub demands_determine_the_link : DemandsDetermineTheLink
 demands_determine_the_link link one two c h t time d = by (same_number (called c h t time d).outcome.answer.number 0)
   where
     by : EitherWay (Done (called c h t time d)) → link c h t time d ≡ called c h t time d
-    by (inl done) = done-agrees link one two.one_step.isolation.others_unchanged two.one_end c h t time d done
-    by (inr other) = refused-agree link one two.one_step.isolation.others_unchanged two.one_end c h t time d other
+    by (inl done) = done_agrees link one two.one_step.isolation.others_unchanged two.one_end c h t time d done
+    by (inr other) = refused_agree link one two.one_step.isolation.others_unchanged two.one_end c h t time d other
 
 -- Both pass exactly the telegrams that there are.
 pub demand_3_determines_what_passes : Demand3DeterminesWhatPasses

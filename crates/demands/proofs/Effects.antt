@@ -143,28 +143,28 @@ module _ (h : Head) (t : List Record) (i time : ℕ) (d : List ℕ) where
   abbrev r : Record
   r = record_at t i
 
-  pub open-does : (random : ℕ) (idle_time_holds : IdleTime) (net : List ℕ) → Done (called (Open i random idle_time_holds net) h t time d)
+  pub open_does : (random : ℕ) (idle_time_holds : IdleTime) (net : List ℕ) → Done (called (Open i random idle_time_holds net) h t time d)
       → Does (called (Open i random idle_time_holds net) h t time d) d i (asking r h.own time random (declared_by idle_time_holds) net)
   unfolding open_of open_out writes_request
-  open-does random idle_time_holds net done =
+  open_does random idle_time_holds net done =
       let g = carried (Open i random idle_time_holds net) h t time d done in
       call_does (Open i random idle_time_holds net) h t time d _ g
       (from_writes
       (writes (open_refusal r h.own idle_time_holds net d) (refusal (end_of r h.own) (length d) (connect_allowed (declared_by idle_time_holds) (length net) (end_of r h.own).level))
       (request (end_of r h.own) random (declared_by idle_time_holds) net) d r _ 1 event.Nothing g.number))
 
-  pub send-writes : (low : ℕ) (net : List ℕ) → Carried (Send i low net) h t time d
+  pub send_writes : (low : ℕ) (net : List ℕ) → Carried (Send i low net) h t time d
       → Writes (data_telegram (end_of r h.own) r.sending low net) d (sent r time) 7 event.Nothing (refusal (end_of r h.own) (length d) (data_allowed low (length net) (end_of r h.own).level))
       (send_of r h.own time low net d) (send_out r h.own low net d)
   unfolding send_of send_out writes_data
-  send-writes low net g =
+  send_writes low net g =
       writes (send_refusal r h.own low net d) (refusal (end_of r h.own) (length d) (data_allowed low (length net) (end_of r h.own).level))
       (data_telegram (end_of r h.own) r.sending low net) d r (sent r time) 7 event.Nothing g.number
 
-  pub send-does : (low : ℕ) (net : List ℕ) → Done (called (Send i low net) h t time d) → Does (called (Send i low net) h t time d) d i (sending_data r h.own time low net)
+  pub send_does : (low : ℕ) (net : List ℕ) → Done (called (Send i low net) h t time d) → Does (called (Send i low net) h t time d) d i (sending_data r h.own time low net)
   unfolding sent
-  send-does low net done =
-      let g = carried (Send i low net) h t time d done in call_does (Send i low net) h t time d _ g (from_writes (send-writes low net g))
+  send_does low net done =
+      let g = carried (Send i low net) h t time d done in call_does (Send i low net) h t time d _ g (from_writes (send_writes low net g))
 
 -- a disconnect has a type, 0 or 1
 type_is : (type reason count l : ℕ) → disconnect_allowed type reason count l ≡ true → type ≡ pick (eqb type 0) 0 1

@@ -34,7 +34,7 @@ use Rattle.demands.specs.Effects.{Effect, Does, Receipt, takes, place_for, recor
 use Rattle.demands.specs.OneEnd.{LooksAt}
 use Rattle.demands.specs.SetUp.{Parties, BothOpen}
 use Rattle.demands.specs.IdleTimes.{Carries, Declares, Keeps1000, Demand2IdleTimes}
-use Rattle.demands.proofs.Effects.{told, open-does}
+use Rattle.demands.proofs.Effects.{told, open_does}
 use Rattle.demands.proofs.OneEnd.{silence_closes_here, ticks_in_time, when_closed}
 use Rattle.demands.proofs.SetUp.{demand_2_set_up}
 
@@ -90,7 +90,7 @@ unfolding become asked
 declares i time bytes known written =
     record {
       opening = λ place random net h t now d done.
-          says _ d place _ time bytes (open-does h t place now d random i net done) known (request_says _ random (declared_by i) net ∙ ap (lowest_first 2) known ∙ written);
+          says _ d place _ time bytes (open_does h t place now d random i net done) known (request_says _ random (declared_by i) net ∙ ap (lowest_first 2) known ∙ written);
       confirming = λ x same closed good done.
           let is : declared_by x.idle_time_holds ≡ time = ap declared_by same ∙ known in
           says _ x.buffer (place_for x) _ time bytes (when_closed.confirms x closed good done) is

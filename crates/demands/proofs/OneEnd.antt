@@ -47,7 +47,7 @@ use Rattle.demands.specs.Demand2.{IsClosed}
 use Rattle.demands.specs.OneEnd.{LooksAt, SilenceClosesHere, LateCloses, LateAnswerCloses, TicksInTime, GoodRequest, WhenClosed, Awaiting, ConfirmAwaited, AnswerAwaited, acknowledged, opened, ForAnOpen, WhenOpen, IncorrectClosesHere, PartnerClosesHere, CallsOfOurs, AnswersUs, ByAnAnswer, OpensOnlyByAnAnswer, FromAGoodTelegram, DataOnlyFromAGoodTelegram, NeverReopens, Demand2OneEnd}
 use Rattle.demands.specs.OneEnd.LooksAt.{tick, receipt}
 use Rattle.demands.proofs.Carried.{carried, step_in, done_by_holds}
-use Rattle.demands.proofs.Effects.{effect_of, left_by, receipt_does, receipt_at, tick_does, open-does, send-does, close_does}
+use Rattle.demands.proofs.Effects.{effect_of, left_by, receipt_does, receipt_at, tick_does, open_does, send_does, close_does}
 use Rattle.demands.proofs.Demand2.{open_in_time, waits_in_time, due_sends, expects, watch_ran_out}
 use Rattle.demands.proofs.EveryStep.{quiet_tick}
 
@@ -204,14 +204,14 @@ pub confirm_awaited : ConfirmAwaited called
 unfolding pick
 confirm_awaited =
     record {
-      authenticates = λ x a c k v done. receipt_does x Authenticate (row_in x kind.Confirm 2 a.phase_is (on-time x a) c k ∙ (rw v refl)) done;
-      other_version = λ x a c k v done. receipt_does x (Closes 0x01 true) (row_in x kind.Confirm 2 a.phase_is (on-time x a) c k ∙ (rw v refl)) done;
+      authenticates = λ x a c k v done. receipt_does x Authenticate (row_in x kind.Confirm 2 a.phase_is (on_time x a) c k ∙ (rw v refl)) done;
+      other_version = λ x a c k v done. receipt_does x (Closes 0x01 true) (row_in x kind.Confirm 2 a.phase_is (on_time x a) c k ∙ (rw v refl)) done;
       ignores = λ x a c k k' done.
-          receipt_does x Nothing (row_in x (kind_of x) 2 a.phase_is (on-time x a) c refl ∙ ignored_row (kind_of x) (record_for x) x.telegram (kind_known x c) k k') done;
+          receipt_does x Nothing (row_in x (kind_of x) 2 a.phase_is (on_time x a) c refl ∙ ignored_row (kind_of x) (record_for x) x.telegram (kind_known x c) k k') done;
     }
   where
-    on-time : (x : Receipt) → Awaiting (record_for x) x.time 2 → run_out (record_for x) x.time ≡ false
-    on-time x a = awaiting_in_time (record_for x) x.time 2 (omega arith) (omega arith) a
+    on_time : (x : Receipt) → Awaiting (record_for x) x.time 2 → run_out (record_for x) x.time ≡ false
+    on_time x a = awaiting_in_time (record_for x) x.time 2 (omega arith) (omega arith) a
 
 -- An authentication or an acknowledgement awaited, in the phase p
 
@@ -222,9 +222,9 @@ module _ (p n : ℕ) (k : Kind) (v : Verdict) (right : Receipt → Effect) (low 
   on-timeₐ : (x : Receipt) → Awaiting (record_for x) x.time p → run_out (record_for x) x.time ≡ false
   on-timeₐ x a = awaiting_in_time (record_for x) x.time p low high a
 
-  answer-awaited : AnswerAwaited called p n k right
+  answer_awaited : AnswerAwaited called p n k right
   unfolding good_number pick
-  answer-awaited =
+  answer_awaited =
       record {
         answers = λ x a c f same done.
             subst (λ (e : Effect). Does (takes called x) x.buffer (first_match x.route x.table) e) (right_is x)
@@ -265,10 +265,10 @@ other_than_acknowledgement kind.Data r t n a b = refl
 other_than_acknowledgement kind.Unknown r t n a b = absurd (unknown_is_not n)
 
 pub authentication_awaited : AnswerAwaited called 3 1 kind.Authentication acknowledged
-authentication_awaited = answer-awaited 3 1 kind.Authentication Acknowledge acknowledged (omega arith) (omega arith) (λ x. refl) (λ r t. refl) other_than_authentication
+authentication_awaited = answer_awaited 3 1 kind.Authentication Acknowledge acknowledged (omega arith) (omega arith) (λ x. refl) (λ r t. refl) other_than_authentication
 
 pub acknowledgement_awaited : AnswerAwaited called 4 2 kind.Acknowledgement opened
-acknowledgement_awaited = answer-awaited 4 2 kind.Acknowledgement Opens opened (omega arith) (omega arith) (λ x. refl) (λ r t. refl) other_than_acknowledgement
+acknowledgement_awaited = answer_awaited 4 2 kind.Acknowledgement Opens opened (omega arith) (omega arith) (λ x. refl) (λ r t. refl) other_than_acknowledgement
 
 -- Open
 
@@ -276,20 +276,20 @@ pub when_open : WhenOpen called
 unfolding pick
 when_open =
     record {
-      hands_up_holds = λ x o c k done. receipt_does x Data (row_in x kind.Data 5 o.open_here (on-time x o) c k) done;
-      takes_idle = λ x o c k done. receipt_does x Idle (row_in x kind.Idle 5 o.open_here (on-time x o) c k) done;
+      hands_up_holds = λ x o c k done. receipt_does x Data (row_in x kind.Data 5 o.open_here (on_time x o) c k) done;
+      takes_idle = λ x o c k done. receipt_does x Idle (row_in x kind.Idle 5 o.open_here (on_time x o) c k) done;
       set_up_anew = λ x o c anew done. receipt_does x (Closes 0x04 false) (by x o c anew) done;
     }
   where
-    on-time : (x : Receipt) → ForAnOpen x → run_out (record_for x) x.time ≡ false
-    on-time x o = open_in_time (record_for x) x.time o.open_here o.in_time
+    on_time : (x : Receipt) → ForAnOpen x → run_out (record_for x) x.time ≡ false
+    on_time x o = open_in_time (record_for x) x.time o.open_here o.in_time
 
     by : (x : Receipt) → ForAnOpen x → Passing x → (kind_of x ≡ kind.Request) ⊎ ((kind_of x ≡ kind.Confirm) ⊎ ((kind_of x ≡ kind.Authentication) ⊎ (kind_of x ≡ kind.Acknowledgement)))
         → judged (record_for x) x.head.own x.time x.telegram ≡ Closes 0x04 false
-    by x o c (inl e) = row_in x kind.Request 5 o.open_here (on-time x o) c e
-    by x o c (inr (inl e)) = row_in x kind.Confirm 5 o.open_here (on-time x o) c e
-    by x o c (inr (inr (inl e))) = row_in x kind.Authentication 5 o.open_here (on-time x o) c e
-    by x o c (inr (inr (inr e))) = row_in x kind.Acknowledgement 5 o.open_here (on-time x o) c e
+    by x o c (inl e) = row_in x kind.Request 5 o.open_here (on_time x o) c e
+    by x o c (inr (inl e)) = row_in x kind.Confirm 5 o.open_here (on_time x o) c e
+    by x o c (inr (inr (inl e))) = row_in x kind.Authentication 5 o.open_here (on_time x o) c e
+    by x o c (inr (inr (inr e))) = row_in x kind.Acknowledgement 5 o.open_here (on_time x o) c e
 
 -- From the first wait on
 
@@ -330,8 +330,8 @@ partner_closes_here x listens passes disconnects done =
 pub calls_of_ours : CallsOfOurs called
 calls_of_ours =
     record {
-      opens = λ i random idle_time_holds net h t time d done. open-does h t i time d random idle_time_holds net done;
-      sends = λ i low net h t time d done. send-does h t i time d low net done;
+      opens = λ i random idle_time_holds net h t time d done. open_does h t i time d random idle_time_holds net done;
+      sends = λ i low net h t time d done. send_does h t i time d low net done;
       closes = λ i type reason text h t time d done. close_does h t i time d type reason text done;
     }
 
@@ -392,58 +392,58 @@ not_both b e f = let z : ◌≡◌ {A = Bool} true false = sym e ∙ f in let n 
 -- opened is 1, data is 2
 module _ (x : ℕ) (low : 1 ≤ x) (high : x ≤ 2) where
   -- neither a timer nor an incorrect telegram does, and no tick
-  run-out-tells : (p : ℕ) → 1 ≤ p → p ≤ 5 → event_of (run_out_verdict p) ≡ x → ⊥
+  run_out_tells : (p : ℕ) → 1 ≤ p → p ≤ 5 → event_of (run_out_verdict p) ≡ x → ⊥
   unfolding run_out_verdict pick
-  run-out-tells p l h = phases (λ (q : ℕ). event_of (run_out_verdict q) ≡ x → ⊥) p l h (λ y. omega arith) (λ y. omega arith) (λ y. omega arith) (λ y. omega arith) (λ y. omega arith)
+  run_out_tells p l h = phases (λ (q : ℕ). event_of (run_out_verdict q) ≡ x → ⊥) p l h (λ y. omega arith) (λ y. omega arith) (λ y. omega arith) (λ y. omega arith) (λ y. omega arith)
 
-  incorrect-tells : (p : ℕ) → 1 ≤ p → p ≤ 5 → event_of (ruled Incorrect-rcv-1st p) ≡ x → ⊥
+  incorrect_tells : (p : ℕ) → 1 ≤ p → p ≤ 5 → event_of (ruled Incorrect-rcv-1st p) ≡ x → ⊥
   unfolding pick
-  incorrect-tells p l h = phases (λ (q : ℕ). event_of (ruled Incorrect-rcv-1st q) ≡ x → ⊥) p l h (λ y. omega arith) (λ y. omega arith) (λ y. omega arith) (λ y. omega arith) (λ y. omega arith)
+  incorrect_tells p l h = phases (λ (q : ℕ). event_of (ruled Incorrect-rcv-1st q) ≡ x → ⊥) p l h (λ y. omega arith) (λ y. omega arith) (λ y. omega arith) (λ y. omega arith) (λ y. omega arith)
 
-  tick-tells : (r : Record) (time : ℕ) → 1 ≤ r.phase → r.phase ≤ 5 → event_of (ticked r time) ≡ x → ⊥
+  tick_tells : (r : Record) (time : ℕ) → 1 ≤ r.phase → r.phase ≤ 5 → event_of (ticked r time) ≡ x → ⊥
   unfolding ticked pick
-  tick-tells r time l h = by (run_out r time) (eqb r.phase 5) (idle_due r time)
+  tick_tells r time l h = by (run_out r time) (eqb r.phase 5) (idle_due r time)
     where
       by : (a b c : Bool) → event_of (pick a (run_out_verdict r.phase) (pick b (pick c (ruled Timeout-snd r.phase) Nothing) Nothing)) ≡ x → ⊥
-      by true b c z = run-out-tells r.phase l h z
+      by true b c z = run_out_tells r.phase l h z
       by false true true z =
           phases (λ (q : ℕ). event_of (ruled Timeout-snd q) ≡ x → ⊥) r.phase l h (λ y. omega arith) (λ y. omega arith) (λ y. omega arith) (λ y. omega arith) (λ y. omega arith) z
       by false true false z = omega arith
       by false false c z = omega arith
 
   -- what the table leaves open only takes away
-  narrowed-tells : (v : Verdict) (r : Record) (t : List ℕ) → event_of (narrowed v r t) ≡ x → event_of v ≡ x
-  narrowed-tells Confirm r t = unless_good x (good_version t) Confirm Nothing (λ z. z)
-  narrowed-tells Authenticate r t = unless_good x (good_version t) Authenticate (Closes 0x01 true) (λ z. absurd (omega arith))
-  narrowed-tells Acknowledge r t = unless_good x (good_number r 1 t) Acknowledge (Closes 0x03 true) (λ z. absurd (omega arith))
-  narrowed-tells Opens r t = unless_good x (good_number r 2 t) Opens (Closes 0x03 true) (λ z. absurd (omega arith))
-  narrowed-tells Nothing r t = λ z. z
-  narrowed-tells Data r t = λ z. z
-  narrowed-tells Idle r t = λ z. z
-  narrowed-tells SendIdle r t = λ z. z
-  narrowed-tells Disconnected r t = λ z. z
-  narrowed-tells (Closes reason last) r t = λ z. z
+  narrowed_tells : (v : Verdict) (r : Record) (t : List ℕ) → event_of (narrowed v r t) ≡ x → event_of v ≡ x
+  narrowed_tells Confirm r t = unless_good x (good_version t) Confirm Nothing (λ z. z)
+  narrowed_tells Authenticate r t = unless_good x (good_version t) Authenticate (Closes 0x01 true) (λ z. absurd (omega arith))
+  narrowed_tells Acknowledge r t = unless_good x (good_number r 1 t) Acknowledge (Closes 0x03 true) (λ z. absurd (omega arith))
+  narrowed_tells Opens r t = unless_good x (good_number r 2 t) Opens (Closes 0x03 true) (λ z. absurd (omega arith))
+  narrowed_tells Nothing r t = λ z. z
+  narrowed_tells Data r t = λ z. z
+  narrowed_tells Idle r t = λ z. z
+  narrowed_tells SendIdle r t = λ z. z
+  narrowed_tells Disconnected r t = λ z. z
+  narrowed_tells (Closes reason last) r t = λ z. z
 
-  judged-tells : (r : Record) (own time : ℕ) (t : List ℕ) → 1 ≤ r.phase → r.phase ≤ 5 → event_of (judged r own time t) ≡ x → ByATelegram x r own time t
+  judged_tells : (r : Record) (own time : ℕ) (t : List ℕ) → 1 ≤ r.phase → r.phase ≤ 5 → event_of (judged r own time t) ≡ x → ByATelegram x r own time t
   unfolding judged passed pick
-  judged-tells r own time t l h = by (run_out r time) refl (check_of (end_of r own) (expected_now r) t) refl
+  judged_tells r own time t l h = by (run_out r time) refl (check_of (end_of r own) (expected_now r) t) refl
     where
       by : (b : Bool) → run_out r time ≡ b → (c : Check) → check_of (end_of r own) (expected_now r) t ≡ c → event_of (pick b (run_out_verdict r.phase) (checked_by c r t)) ≡ x
           → ByATelegram x r own time t
-      by true out c e z = absurd (run-out-tells r.phase l h z)
-      by false out (Failed y) e z = absurd (incorrect-tells r.phase l h z)
-      by false out (Refused y) e z = absurd (incorrect-tells r.phase l h z)
+      by true out c e z = absurd (run_out_tells r.phase l h z)
+      by false out (Failed y) e z = absurd (incorrect_tells r.phase l h z)
+      by false out (Refused y) e z = absurd (incorrect_tells r.phase l h z)
       by false out Passes e z = record { in_time = out; passes = e; cell = z }
 
-  done-tells : (c : Call) (h : Head) (t : List Record) (time : ℕ) (d : List ℕ) → Done (called c h t time d) → (happened (called c h t time d).outcome.event).event ≡ x → Tells x c h t time
+  done_tells : (c : Call) (h : Head) (t : List Record) (time : ℕ) (d : List ℕ) → Done (called c h t time d) → (happened (called c h t time d).outcome.event).event ≡ x → Tells x c h t time
   unfolding received_refusal tick_refusal
-  done-tells (Open place random i net) h t time d done o =
-      let z : ◌≡◌ {A = ℕ} 0 x = ap (λ (y : Event). (happened y).event) (sym (open-does h t place time d random i net done).says) ∙ o in omega arith
-  done-tells (Close place type reason text) h t time d done o =
+  done_tells (Open place random i net) h t time d done o =
+      let z : ◌≡◌ {A = ℕ} 0 x = ap (λ (y : Event). (happened y).event) (sym (open_does h t place time d random i net done).says) ∙ o in omega arith
+  done_tells (Close place type reason text) h t time d done o =
       let z : ◌≡◌ {A = ℕ} 3 x = ap (λ (y : Event). (happened y).event) (sym (close_does h t place time d type reason text done).says) ∙ o in omega arith
-  done-tells (Send place command net) h t time d done o =
-      let z : ◌≡◌ {A = ℕ} 0 x = ap (λ (y : Event). (happened y).event) (sym (send-does h t place time d command net done).says) ∙ o in omega arith
-  done-tells (Received w random idle_time_holds telegram net) h t time d done o =
+  done_tells (Send place command net) h t time d done o =
+      let z : ◌≡◌ {A = ℕ} 0 x = ap (λ (y : Event). (happened y).event) (sym (send_does h t place time d command net done).says) ∙ o in omega arith
+  done_tells (Received w random idle_time_holds telegram net) h t time d done o =
       let r = record_at t (first_match w t) in
       let g = carried (Received w random idle_time_holds telegram net) h t time d done in
       let n = answers.by_received r h.own time random idle_time_holds telegram net d in
@@ -453,24 +453,24 @@ module _ (x : ℕ) (low : 1 ≤ x) (high : x ≤ 2) where
         p.0,
         (
           p.1,
-          judged-tells r h.own time telegram p.0 p.1
+          judged_tells r h.own time telegram p.0 p.1
               (sym (event_of_holds (judged r h.own time telegram) r h.own time random (declared_by idle_time_holds) telegram net) ∙ ap (λ (y : Event). (happened y).event) (sym says) ∙ o),
         ),
       )
-  done-tells (Tick place) h t time d done o =
+  done_tells (Tick place) h t time d done o =
       let r = record_at t place in
       let g = carried (Tick place) h t time d done in
       let n = answers.by_tick r h.own time d in
       let p = live_phase r h.own (tick_refusal r h.own d) _ _ _ _ refl (sym n ∙ g.number) in
-      tick-tells r time p.0 p.1
+      tick_tells r time p.0 p.1
       (sym (event_of_holds (ticked r time) r h.own time 0 0 [] []) ∙ ap (λ (y : Event). (happened y).event) (sym (tick_does h t place time d (ticked r time) refl done).says) ∙ o)
 
-  called-tells : (c : Call) (h : Head) (t : List Record) (time : ℕ) (d : List ℕ) → (happened (called c h t time d).outcome.event).event ≡ x → Tells x c h t time
+  called_tells : (c : Call) (h : Head) (t : List Record) (time : ℕ) (d : List ℕ) → (happened (called c h t time d).outcome.event).event ≡ x → Tells x c h t time
   unfolding refused_outcome
-  called-tells c h t time d o = by (eqb (called c h t time d).outcome.answer.number 0) refl
+  called_tells c h t time d o = by (eqb (called c h t time d).outcome.answer.number 0) refl
     where
       by : (b : Bool) → eqb (called c h t time d).outcome.answer.number 0 ≡ b → Tells x c h t time
-      by true f = done-tells c h t time d (eqb-true _ 0 f) o
+      by true f = done_tells c h t time d (eqb-true _ 0 f) o
       by false f =
           let s = refused_changes_nothing c h t time d (eqb-false _ 0 f) in
           let z : ◌≡◌ {A = ℕ} 0 x = ap (λ (y : Outcome). (happened y.event).event) (sym s.0) ∙ o in absurd (omega arith)
@@ -517,7 +517,7 @@ answers_us r own time t q n k p low high b e good =
 
 opens_by : (r : Record) (own time : ℕ) (t : List ℕ) → 1 ≤ r.phase → r.phase ≤ 5 → ByATelegram 1 r own time t
     → AnswersUs r own time t 3 1 kind.Authentication ⊎ AnswersUs r own time t 4 2 kind.Acknowledgement
-opens_by r own time t low high b = by (opening_cell k r.phase low high (narrowed-tells 1 (omega arith) (omega arith) (ruled (row_of k) r.phase) r t b.cell))
+opens_by r own time t low high b = by (opening_cell k r.phase low high (narrowed_tells 1 (omega arith) (omega arith) (ruled (row_of k) r.phase) r t b.cell))
   where
     k : Kind
     k = kind_of_command (command_of t)
@@ -531,7 +531,7 @@ opens_by r own time t low high b = by (opening_cell k r.phase low high (narrowed
     by (inr (e, p)) = inr (answers_us r own time t 4 2 kind.Acknowledgement p (omega arith) (omega arith) b e (good_by (good_number r 2 t) Opens (at kind.Acknowledgement 4 e p)))
 
 pub opens_only_by_an_answer : OpensOnlyByAnAnswer called
-opens_only_by_an_answer c h t time d e = by c (called-tells 1 (omega arith) (omega arith) c h t time d (ap (λ (y : Event). (happened y).event) e))
+opens_only_by_an_answer c h t time d e = by c (called_tells 1 (omega arith) (omega arith) c h t time d (ap (λ (y : Event). (happened y).event) e))
   where
     by : (c : Call) → Tells 1 c h t time → ByAnAnswer c h t time
     by (Received w random idle_time_holds telegram net) (low, (high, b)) = opens_by (record_at t (first_match w t)) h.own time telegram low high b
@@ -563,13 +563,13 @@ not_silent r time p in_time some = by (ltb (r.taken_at + r.watched) time) refl
     by false f = ltb-false (r.taken_at + r.watched) time f
 
 pub data_only_from_a_good_telegram : DataOnlyFromAGoodTelegram called
-data_only_from_a_good_telegram c h t time d e = by c (called-tells 2 (omega arith) (omega arith) c h t time d e)
+data_only_from_a_good_telegram c h t time d e = by c (called_tells 2 (omega arith) (omega arith) c h t time d e)
   where
     by : (c : Call) → Tells 2 c h t time → FromAGoodTelegram c h t time
     by (Received w random idle_time_holds telegram net) (low, (high, b)) =
         let r = record_at t (first_match w t) in
         let k = kind_of_command (command_of telegram) in
-        let z = data_cell k r.phase low high (narrowed-tells 2 (omega arith) (omega arith) (ruled (row_of k) r.phase) r telegram b.cell) in
+        let z = data_cell k r.phase low high (narrowed_tells 2 (omega arith) (omega arith) (ruled (row_of k) r.phase) r telegram b.cell) in
         record {
           open_here = z.1;
           in_time = not_silent r time z.1 b.in_time;

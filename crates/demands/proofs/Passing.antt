@@ -162,9 +162,9 @@ module _ (e : End) (m : ℕ) (t : List ℕ) (bytes : Bytes t) (p : Passed e m t)
       ∙ ap₂ {C = List ℕ} (λ (x y : ℕ). x ∷ y ∷ (field_bytes (layout k) (values k t) ++ net)) (eqb-true (get_or t 0 0) (used_for m t % 256) p.byte_1)
       (command_is (command_of t) e.level (level_there e p.in_range_holds) p.of_level))
 
-  sealed-is : sealed (mirrored e) (used_for m t) (take (covered e.level t) t) ≡ t
+  sealed_is : sealed (mirrored e) (used_for m t) (take (covered e.level t) t) ≡ t
   unfolding sealed word_agrees
-  sealed-is =
+  sealed_is =
       let size : length (take (covered e.level t) t) + word_length e.level ≡ length t = omega (arith, long, length-take (covered e.level t) t) in
       ap {B = List ℕ}
       (λ (n : ℕ).
@@ -176,15 +176,15 @@ module _ (e : End) (m : ℕ) (t : List ℕ) (bytes : Bytes t) (p : Passed e m t)
       ∙ take-append-drop (covered e.level t) t
 
   made : t ≡ telegram (mirrored e) (used_for m t) low (values k t) net
-  made = sym (ap {B = List ℕ} (sealed (mirrored e) (used_for m t)) body_is ∙ sealed-is)
+  made = sym (ap {B = List ℕ} (sealed (mirrored e) (used_for m t)) body_is ∙ sealed_is)
 
   -- with the kind, the low six bits and the net data known
   made_as : (h : Kind) (x : ℕ) (ns : List ℕ) → kind_of low ≡ h → low ≡ x → net ≡ ns
       → t ≡ sealed (mirrored e) (number_used h m (values h t)) (body e.level (number_used h m (values h t)) x (field_bytes (layout h) (values h t)) ns)
   made_as h x ns q r z = rw (← q, ← r, ← z) made
 
-  net-bytes : Bytes net
-  net-bytes = bytes_take count (drop (header k) t) (bytes_drop (header k) t bytes)
+  net_bytes : Bytes net
+  net_bytes = bytes_take count (drop (header k) t) (bytes_drop (header k) t bytes)
 
   few : (h : Kind) → kind_of low ≡ h → length net ≤ most h e.level
   few h q =
@@ -202,8 +202,8 @@ module _ (e : End) (m : ℕ) (t : List ℕ) (bytes : Bytes t) (p : Passed e m t)
   good : (h : Kind) → kind_of low ≡ h → good_fields h (values h t) ≡ true
   good h q = subst (λ (x : Kind). good_fields x (values x t) ≡ true) q p.good_fields_holds
 
-  six-bits : (h : Kind) → kind_of low ≡ h → Low h low
-  six-bits h q = subst (λ (x : Kind). Low x low) q (low_of low)
+  six_bits : (h : Kind) → kind_of low ≡ h → Low h low
+  six_bits h q = subst (λ (x : Kind). Low x low) q (low_of low)
 
   connects : good_fields Request (values Request t) ≡ true
       → ConnectFields (number_at 4 2 t) (number_at 2 6 t) (number_at 1 8 t) (number_at 1 9 t) (number_at 1 10 t) (number_at 1 11 t)
@@ -221,9 +221,9 @@ module _ (e : End) (m : ℕ) (t : List ℕ) (bytes : Bytes t) (p : Passed e m t)
         one_bus_or_two = leb-true _ _ both.1;
       }
 
-  some-data : kind_of low ≡ Data → TelegramOf (mirrored e) m t
-  some-data q =
-      data_telegram_holds low net (six-bits Data q) (record { bytes = net-bytes; room = omega (arith, few Data q, word_small e.level) })
+  some_data : kind_of low ≡ Data → TelegramOf (mirrored e) m t
+  some_data q =
+      data_telegram_holds low net (six_bits Data q) (record { bytes = net_bytes; room = omega (arith, few Data q, word_small e.level) })
       (made_as Data low net q refl refl
       ∙ ap {B = List ℕ} (λ (x : Kind). sealed (mirrored e) m (body e.level m low (field_bytes (layout x) []) net)) (sym q))
 
@@ -231,21 +231,21 @@ module _ (e : End) (m : ℕ) (t : List ℕ) (bytes : Bytes t) (p : Passed e m t)
   unfolding kind_of good_type pick
   there_is Request q =
       request (number_at 4 2 t) (number_at 2 6 t) (number_at 1 8 t) (number_at 1 9 t) (number_at 1 10 t) (number_at 1 11 t) net (connects (good Request q))
-      (record { bytes = net-bytes; room = omega (arith, few Request q, word_small e.level) }) (made_as Request 0x00 net q (six-bits Request q) refl)
+      (record { bytes = net_bytes; room = omega (arith, few Request q, word_small e.level) }) (made_as Request 0x00 net q (six_bits Request q) refl)
   there_is Confirm q =
       confirm (number_at 4 2 t) (number_at 2 6 t) (number_at 1 8 t) (number_at 1 9 t) (number_at 1 10 t) (number_at 1 11 t) net (connects (good Confirm q))
-      (record { bytes = net-bytes; room = omega (arith, few Confirm q, word_small e.level) }) (made_as Confirm 0x02 net q (six-bits Confirm q) refl)
+      (record { bytes = net_bytes; room = omega (arith, few Confirm q, word_small e.level) }) (made_as Confirm 0x02 net q (six_bits Confirm q) refl)
   there_is Authentication q =
       authentication (number_at 4 2 t) (field_lt 4 2 t bytes)
-      (made_as Authentication 0x03 [] q (six-bits Authentication q) (nothing Authentication q refl))
+      (made_as Authentication 0x03 [] q (six_bits Authentication q) (nothing Authentication q refl))
   there_is Acknowledgement q =
       acknowledgement (number_at 4 2 t) (field_lt 4 2 t bytes)
-      (made_as Acknowledgement 0x04 [] q (six-bits Acknowledgement q) (nothing Acknowledgement q refl))
+      (made_as Acknowledgement 0x04 [] q (six_bits Acknowledgement q) (nothing Acknowledgement q refl))
   there_is Disconnect q =
-      disconnect (number_at 1 2 t) (number_at 1 3 t) net (leb-true _ _ (good Disconnect q)) (field_lt 1 3 t bytes) net-bytes (few Disconnect q)
-      (made_as Disconnect 0x05 net q (six-bits Disconnect q) refl)
-  there_is Idle q = idle (made_as Idle 0x06 [] q (six-bits Idle q) (nothing Idle q refl))
-  there_is Data q = some-data q
+      disconnect (number_at 1 2 t) (number_at 1 3 t) net (leb-true _ _ (good Disconnect q)) (field_lt 1 3 t bytes) net_bytes (few Disconnect q)
+      (made_as Disconnect 0x05 net q (six_bits Disconnect q) refl)
+  there_is Idle q = idle (made_as Idle 0x06 [] q (six_bits Idle q) (nothing Idle q refl))
+  there_is Data q = some_data q
   there_is Unknown q =
       let none : known Unknown ≡ true = subst (λ (x : Kind). known x ≡ true) q p.of_kind in
       let z : ◌≡◌ {A = ℕ} 0 1 = cc in
@@ -306,11 +306,11 @@ module _ (e : End) (m : ℕ) (ranged : in_range e ≡ true) where
       subst (λ (u : List ℕ). check_of e m u ≡ Passes) (sym is)
       (taken (mirrored e) m 0x06 [] [] (mirrored_in_range e ranged) (lit< tt) refl tt tt (omega arith) refl m refl).passes
   passes t (data_telegram_holds low net d n is) =
-      subst (λ (u : List ℕ). check_of e m u ≡ Passes) (sym is) (data-passes low net d n)
+      subst (λ (u : List ℕ). check_of e m u ≡ Passes) (sym is) (data_passes low net d n)
     where
-      data-passes : (low : ℕ) (net : List ℕ) → (low ≡ 0x09) ⊎ ((0x20 ≤ low) × (low ≤ 0x3F)) → NetData (mirrored e) 2 net
+      data_passes : (low : ℕ) (net : List ℕ) → (low ≡ 0x09) ⊎ ((0x20 ≤ low) × (low ≤ 0x3F)) → NetData (mirrored e) 2 net
           → check_of e m (telegram (mirrored e) m low [] net) ≡ Passes
-      data-passes low net d n =
+      data_passes low net d n =
           let k : kind_of low ≡ Data = data_kind low (data_is low d) in
           (taken (mirrored e) m low [] net (mirrored_in_range e ranged) (data_small low (data_is low d)).1 (ap {B = Bool} known k) (subst (λ (x : Kind). Fit (layout x) []) (sym k) tt)
           n.bytes (subst (λ (x : Kind). length net ≤ most x e.level) (sym k) (omega (arith, n.room))) (ap {B = Bool} (λ (x : Kind). good_fields x []) k) m

@@ -41,7 +41,7 @@ use Rattle.demands.specs.Pairs.{Mirror, telegram_of, Done, Made, made, head_afte
 use Rattle.demands.specs.Effects.{Does, asking, Receipt, takes}
 use Rattle.demands.specs.SetUp.{Given, Parties, here, there, arriving, head_then, table_then, asks, confirms, authenticates, acknowledges, opens, Undisturbed, set_up, Fits, Until, Demand2SetUp, SetUpIsDone, Demand2FromTheRequest}
 use Rattle.demands.proofs.Carried.{carried, done_by_holds}
-use Rattle.demands.proofs.Effects.{told, effect_of, receipt_at, open-does, call_wrote, receipt_wrote}
+use Rattle.demands.proofs.Effects.{told, effect_of, receipt_at, open_does, call_wrote, receipt_wrote}
 use Rattle.demands.proofs.Demand2.{own_kept, mirror_place, received_done, watching, waits_in_time}
 use Rattle.demands.proofs.EveryStep.{kept, demand_2_over_every_step}
 
@@ -103,22 +103,22 @@ record Taking (x : Receipt) (j b : ℕ) (q : Record) (v : Verdict) : Type 0 wher
       → act_of v q b x.time x.random (declared_by x.idle_time_holds) x.telegram x.net x.buffer ≡ writing_step (answer_of (unless n y)) q q' kind e → unless n y ≡ wrote y
 
 module _ (l : Left) (a : ℕ) (r : Record) (k : Head) (u : List Record) (g : Given) (j b : ℕ) (q : Record) (y : Holds k u j b q) (m : Mirror a r b q) where
-  mirrored-there : Mirror a r k.own (record_at u j)
-  mirrored-there = rw (y.own_is, y.record_is) m
+  mirrored_there : Mirror a r k.own (record_at u j)
+  mirrored_there = rw (y.own_is, y.record_is) m
 
-  is-done : {vs net : List ℕ} {n : ℕ} {v : Kind} → accepted k u ≡ true → Taken (end_of r a) n (telegram_of l) v vs net → (q.phase ≡ 6 → ⊥) → Fits k.latest r.level g
+  is_done : {vs net : List ℕ} {n : ℕ} {v : Kind} → accepted k u ≡ true → Taken (end_of r a) n (telegram_of l) v vs net → (q.phase ≡ 6 → ⊥) → Fits k.latest r.level g
       → Done (takes called (arriving l a r k u g))
   unfolding end_of
-  is-done {n = n} good x live f =
-      let level : (record_at u j).level ≡ r.level = ap (λ (e : End). e.level) mirrored-there in
-      received_done a r k u j g.time g.random g.idle_time_holds (telegram_of l) g.net g.out good f.room f.timely (passed (mirrored (end_of r a)) n (telegram_of l) x.passes).on_bus_holds mirrored-there y.there_is
+  is_done {n = n} good x live f =
+      let level : (record_at u j).level ≡ r.level = ap (λ (e : End). e.level) mirrored_there in
+      received_done a r k u j g.time g.random g.idle_time_holds (telegram_of l) g.net g.out good f.room f.timely (passed (mirrored (end_of r a)) n (telegram_of l) x.passes).on_bus_holds mirrored_there y.there_is
       (rw y.record_is live) (rw level f.allowed)
 
   taking : (v : Verdict) → judged q b g.time (telegram_of l) ≡ v → Done (takes called (arriving l a r k u g)) → Taking (arriving l a r k u g) j b q v
   taking v f done =
       let x : Receipt = arriving l a r k u g in
       let c : Call = Received x.route g.random g.idle_time_holds (telegram_of l) g.net in
-      let found = mirror_place a r k u j (carried c k u g.time g.out done).good mirrored-there y.there_is in
+      let found = mirror_place a r k u j (carried c k u g.time g.out done).good mirrored_there y.there_is in
       let f' : judged (record_at u j) k.own g.time (telegram_of l) ≡ v = rw (y.own_is, y.record_is) f in
       let d : Does (takes called x) g.out j (effect_of v q b g.time g.random (declared_by g.idle_time_holds) (telegram_of l) g.net) =
       rw (← y.own_is, ← y.record_is) (receipt_at x j v found f' done) in
@@ -190,12 +190,12 @@ module _ (p : Parties) where
   r₂ = become (here p) 4 (next (next R)) (next S) T U p.third.time p.third.time
 
 module _ (p : Parties) (s : Undisturbed called p) where
-  back-to-here : Mirror (b p) (there p) (a p) (here p)
-  back-to-here = mirror_back (a p) (b p) (here p) (there p) s.mirror
+  back_to_here : Mirror (b p) (there p) (a p) (here p)
+  back_to_here = mirror_back (a p) (b p) (here p) (there p) s.mirror
 
-  same-level : (there p).level ≡ (here p).level
+  same_level_holds : (there p).level ≡ (here p).level
   unfolding end_of
-  same-level = ap (λ (e : End). e.level) s.mirror
+  same_level_holds = ap (λ (e : End). e.level) s.mirror
 
   responder : Holds p.head' p.table' p.j (b p) (there p)
   responder = record { own_is = refl; record_is = refl; there_is = s.place }
@@ -207,28 +207,28 @@ module _ (p : Parties) (s : Undisturbed called p) where
     c₁ = Open p.i (R p) p.first.idle_time_holds p.first.net
 
     first_does : Does (asks called p) p.first.out p.i (asking (here p) (a p) p.first.time (R p) (T p) p.first.net)
-    first_does = open-does p.head p.table p.i p.first.time p.first.out (R p) p.first.idle_time_holds p.first.net asked
+    first_does = open_does p.head p.table p.i p.first.time p.first.out (R p) p.first.idle_time_holds p.first.net asked
 
-    waits-for-confirm : Holds (head_then called (asks called p) p.while_asking) (table_then called (asks called p) p.while_asking) p.i (a p) (r₁ p)
-    waits-for-confirm =
+    waits_for_confirm : Holds (head_then called (asks called p) p.while_asking) (table_then called (asks called p) p.while_asking) p.i (a p) (r₁ p)
+    waits_for_confirm =
         meanwhile (asks called p).outcome.head (asks called p).table p.i (a p) (r₁ p) p.while_asking
         (left_with c₁ p.head p.table p.first.time p.first.out p.i (a p) (r₁ p) refl
         (carried c₁ p.head p.table p.first.time p.first.out asked).there first_does.leaves asked) s.while_asking
 
-    request-there : (expected : ℕ) → Taken (end_of (here p) (a p)) expected (telegram_of (asks called p)) kind.Request (R p ∷ T p ∷ version_and_bus) p.first.net
+    request_there : (expected : ℕ) → Taken (end_of (here p) (a p)) expected (telegram_of (asks called p)) kind.Request (R p ∷ T p ∷ version_and_bus) p.first.net
     unfolding open_of writes_request
-    request-there expected =
+    request_there expected =
         rw (told (asks called p) p.first.out p.i _ first_does)
         (request_taken (end_of (here p) (a p)) (R p) (T p) expected p.first.net p.first.out _ s.random_here s.net_here
         (call_wrote c₁ p.head p.table p.first.time p.first.out (open_refusal (here p) (a p) p.first.idle_time_holds p.first.net p.first.out)
         (refusal (end_of (here p) (a p)) (length p.first.out) (connect_allowed (T p) (length p.first.net) (end_of (here p) (a p)).level)) _ (r₁ p) 1 event.Nothing refl asked))
 
-    confirms-it : judged (there p) (b p) p.second.time (telegram_of (asks called p)) ≡ Confirm
+    confirms_it : judged (there p) (b p) p.second.time (telegram_of (asks called p)) ≡ Confirm
     unfolding run_out pick
-    confirms-it =
+    confirms_it =
         let at_rest : run_out (there p) p.second.time ≡ false = rw s.closed_there refl in
-        judged_by (a p) (b p) p.second.time (here p) (there p) (telegram_of (asks called p)) kind.Request _ _ 1 s.mirror s.closed_there at_rest (request-there (expected_now (there p)))
-        ∙ (rw (version_good (telegram_of (asks called p)) (R p) (T p) (request-there 0).fields) refl)
+        judged_by (a p) (b p) p.second.time (here p) (there p) (telegram_of (asks called p)) kind.Request _ _ 1 s.mirror s.closed_there at_rest (request_there (expected_now (there p)))
+        ∙ (rw (version_good (telegram_of (asks called p)) (R p) (T p) (request_there 0).fields) refl)
 
     -- The confirm
 
@@ -236,27 +236,27 @@ module _ (p : Parties) (s : Undisturbed called p) where
       abbrev x₂ : Receipt
       x₂ = arriving (asks called p) (a p) (here p) p.head' p.table' p.second
 
-      second-taken : Taking x₂ p.j (b p) (there p) Confirm
-      second-taken = taking (asks called p) (a p) (here p) p.head' p.table' p.second p.j (b p) (there p) responder s.mirror Confirm confirms-it confirmed
+      second_taken : Taking x₂ p.j (b p) (there p) Confirm
+      second_taken = taking (asks called p) (a p) (here p) p.head' p.table' p.second p.j (b p) (there p) responder s.mirror Confirm confirms_it confirmed
 
-      waits-for-authentication : Holds (head_then called (confirms called p) p.while_confirming) (table_then called (confirms called p) p.while_confirming) p.j (b p) (q₁ p)
-      waits-for-authentication =
-          later x₂ p.j (b p) (there p) Confirm (q₁ p) p.while_confirming second-taken
-          (ap (λ (vs : List ℕ). become (there p) 3 (next (S p)) (next (get_or vs 0 0)) (U p) (get_or vs 1 0) p.second.time p.second.time) (request-there 0).fields) s.while_confirming
+      waits_for_authentication : Holds (head_then called (confirms called p) p.while_confirming) (table_then called (confirms called p) p.while_confirming) p.j (b p) (q₁ p)
+      waits_for_authentication =
+          later x₂ p.j (b p) (there p) Confirm (q₁ p) p.while_confirming second_taken
+          (ap (λ (vs : List ℕ). become (there p) 3 (next (S p)) (next (get_or vs 0 0)) (U p) (get_or vs 1 0) p.second.time p.second.time) (request_there 0).fields) s.while_confirming
 
-      confirm-there : (expected : ℕ) → Taken (end_of (there p) (b p)) expected (telegram_of (confirms called p)) kind.Confirm (S p ∷ U p ∷ version_and_bus) p.second.net
+      confirm_there : (expected : ℕ) → Taken (end_of (there p) (b p)) expected (telegram_of (confirms called p)) kind.Confirm (S p ∷ U p ∷ version_and_bus) p.second.net
       unfolding writes_confirm
-      confirm-there expected =
-          rw (told (confirms called p) p.second.out p.j _ second-taken.does)
+      confirm_there expected =
+          rw (told (confirms called p) p.second.out p.j _ second_taken.does)
           (confirm_taken (end_of (there p) (b p)) (S p) (U p) expected p.second.net p.second.out _ s.random_there s.net_there
-          (second-taken.written (refusal (end_of (there p) (b p)) (length p.second.out) (connect_allowed (U p) (length p.second.net) (end_of (there p) (b p)).level)) _ _ 2 event.Nothing refl))
+          (second_taken.written (refusal (end_of (there p) (b p)) (length p.second.out) (connect_allowed (U p) (length p.second.net) (end_of (there p) (b p)).level)) _ _ 2 event.Nothing refl))
 
-      authenticates-it : judged (r₁ p) (a p) p.third.time (telegram_of (confirms called p)) ≡ Authenticate
+      authenticates_it : judged (r₁ p) (a p) p.third.time (telegram_of (confirms called p)) ≡ Authenticate
       unfolding become end_of pick
-      authenticates-it =
-          judged_by (b p) (a p) p.third.time (there p) (r₁ p) (telegram_of (confirms called p)) kind.Confirm _ _ 2 back-to-here refl (waits_in_time (r₁ p) p.third.time (lit≤ tt) (lit≤ tt) s.confirmed_in_time)
-          (confirm-there (expected_now (r₁ p)))
-          ∙ (rw (version_good (telegram_of (confirms called p)) (S p) (U p) (confirm-there 0).fields) refl)
+      authenticates_it =
+          judged_by (b p) (a p) p.third.time (there p) (r₁ p) (telegram_of (confirms called p)) kind.Confirm _ _ 2 back_to_here refl (waits_in_time (r₁ p) p.third.time (lit≤ tt) (lit≤ tt) s.confirmed_in_time)
+          (confirm_there (expected_now (r₁ p)))
+          ∙ (rw (version_good (telegram_of (confirms called p)) (S p) (U p) (confirm_there 0).fields) refl)
 
       -- The authentication
 
@@ -264,32 +264,32 @@ module _ (p : Parties) (s : Undisturbed called p) where
         abbrev x₃ : Receipt
         x₃ = arriving (confirms called p) (b p) (there p) (head_then called (asks called p) p.while_asking) (table_then called (asks called p) p.while_asking) p.third
 
-        third-taken : Taking x₃ p.i (a p) (r₁ p) Authenticate
+        third_taken : Taking x₃ p.i (a p) (r₁ p) Authenticate
         unfolding become end_of
-        third-taken = taking (confirms called p) (b p) (there p) x₃.head x₃.table p.third p.i (a p) (r₁ p) waits-for-confirm back-to-here Authenticate authenticates-it authenticated
+        third_taken = taking (confirms called p) (b p) (there p) x₃.head x₃.table p.third p.i (a p) (r₁ p) waits_for_confirm back_to_here Authenticate authenticates_it authenticated
 
-        waits-for-acknowledgement : Holds (head_then called (authenticates called p) p.while_authenticating) (table_then called (authenticates called p) p.while_authenticating) p.i (a p) (r₂ p)
+        waits_for_acknowledgement : Holds (head_then called (authenticates called p) p.while_authenticating) (table_then called (authenticates called p) p.while_authenticating) p.i (a p) (r₂ p)
         unfolding become
-        waits-for-acknowledgement =
-            later x₃ p.i (a p) (r₁ p) Authenticate (r₂ p) p.while_authenticating third-taken
-            (ap (λ (vs : List ℕ). become (here p) 4 (next (next (R p))) (next (get_or vs 0 0)) (T p) (get_or vs 1 0) p.third.time p.third.time) (confirm-there 0).fields) s.while_authenticating
+        waits_for_acknowledgement =
+            later x₃ p.i (a p) (r₁ p) Authenticate (r₂ p) p.while_authenticating third_taken
+            (ap (λ (vs : List ℕ). become (here p) 4 (next (next (R p))) (next (get_or vs 0 0)) (T p) (get_or vs 1 0) p.third.time p.third.time) (confirm_there 0).fields) s.while_authenticating
 
-        authentication-there : Taken (end_of (here p) (a p)) (next (R p)) (telegram_of (authenticates called p)) kind.Authentication (authentication_number (here p).level (S p) ∷ []) []
+        authentication_there : Taken (end_of (here p) (a p)) (next (R p)) (telegram_of (authenticates called p)) kind.Authentication (authentication_number (here p).level (S p) ∷ []) []
         unfolding writes_authentication end_of become
-        authentication-there =
-            subst (λ (vs : List ℕ). Taken (end_of (here p) (a p)) (next (R p)) (telegram_of (authenticates called p)) kind.Authentication (authentication_number (here p).level (get_or vs 0 0) ∷ []) []) (confirm-there 0).fields
-            (rw (told (authenticates called p) p.third.out p.i _ third-taken.does)
+        authentication_there =
+            subst (λ (vs : List ℕ). Taken (end_of (here p) (a p)) (next (R p)) (telegram_of (authenticates called p)) kind.Authentication (authentication_number (here p).level (get_or vs 0 0) ∷ []) []) (confirm_there 0).fields
+            (rw (told (authenticates called p) p.third.out p.i _ third_taken.does)
             (authentication_taken (end_of (here p) (a p)) (next (R p)) (random_of (telegram_of (confirms called p))) p.third.out _
-            (third-taken.written (refusal (end_of (here p) (a p)) (length p.third.out) true) _ _ 3 event.Nothing refl)))
+            (third_taken.written (refusal (end_of (here p) (a p)) (length p.third.out) true) _ _ 3 event.Nothing refl)))
 
-        acknowledges-it : judged (q₁ p) (b p) p.fourth.time (telegram_of (authenticates called p)) ≡ Acknowledge
+        acknowledges_it : judged (q₁ p) (b p) p.fourth.time (telegram_of (authenticates called p)) ≡ Acknowledge
         unfolding become end_of expected_now good_number pick
-        acknowledges-it =
+        acknowledges_it =
             let number-is-ours : good_number (q₁ p) 1 (telegram_of (authenticates called p)) ≡ true =
             eq-eqb (authentication_of (telegram_of (authenticates called p))) (authentication_number (there p).level (back 1 (next (S p))))
-            (ap (λ (vs : List ℕ). get_or vs 0 0) authentication-there.fields ∙ rw (same-level, back_one (S p) s.random_there) refl) in
+            (ap (λ (vs : List ℕ). get_or vs 0 0) authentication_there.fields ∙ rw (same_level_holds, back_one (S p) s.random_there) refl) in
             judged_by (a p) (b p) p.fourth.time (here p) (q₁ p) (telegram_of (authenticates called p)) kind.Authentication _ _ 3 s.mirror refl
-            (waits_in_time (q₁ p) p.fourth.time (lit≤ tt) (lit≤ tt) s.authenticated_in_time) authentication-there
+            (waits_in_time (q₁ p) p.fourth.time (lit≤ tt) (lit≤ tt) s.authenticated_in_time) authentication_there
             ∙ (rw number-is-ours refl)
 
         -- The acknowledgement
@@ -298,40 +298,40 @@ module _ (p : Parties) (s : Undisturbed called p) where
           abbrev x₄ : Receipt
           x₄ = arriving (authenticates called p) (a p) (here p) (head_then called (confirms called p) p.while_confirming) (table_then called (confirms called p) p.while_confirming) p.fourth
 
-          fourth-taken : Taking x₄ p.j (b p) (q₁ p) Acknowledge
+          fourth_taken : Taking x₄ p.j (b p) (q₁ p) Acknowledge
           unfolding become end_of
-          fourth-taken = taking (authenticates called p) (a p) (here p) x₄.head x₄.table p.fourth p.j (b p) (q₁ p) waits-for-authentication s.mirror Acknowledge acknowledges-it acknowledged
+          fourth_taken = taking (authenticates called p) (a p) (here p) x₄.head x₄.table p.fourth p.j (b p) (q₁ p) waits_for_authentication s.mirror Acknowledge acknowledges_it acknowledged
 
-          acknowledgement-there : Taken (end_of (there p) (b p)) (next (S p)) (telegram_of (acknowledges called p)) kind.Acknowledgement (authentication_number (there p).level (R p) ∷ []) []
+          acknowledgement_there : Taken (end_of (there p) (b p)) (next (S p)) (telegram_of (acknowledges called p)) kind.Acknowledgement (authentication_number (there p).level (R p) ∷ []) []
           unfolding writes_acknowledgement end_of become
-          acknowledgement-there =
+          acknowledgement_there =
               subst (λ (n : ℕ). Taken (end_of (there p) (b p)) (next (S p)) (telegram_of (acknowledges called p)) kind.Acknowledgement (authentication_number (there p).level n ∷ []) []) (back_one (R p) s.random_here)
-              (rw (told (acknowledges called p) p.fourth.out p.j _ fourth-taken.does)
+              (rw (told (acknowledges called p) p.fourth.out p.j _ fourth_taken.does)
               (acknowledgement_taken (end_of (there p) (b p)) (next (S p)) (back 1 (next (R p))) p.fourth.out _
-              (fourth-taken.written (refusal (end_of (there p) (b p)) (length p.fourth.out) true) _ _ 4 event.Opened refl)))
+              (fourth_taken.written (refusal (end_of (there p) (b p)) (length p.fourth.out) true) _ _ 4 event.Opened refl)))
 
-          opens-it : judged (r₂ p) (a p) p.fifth.time (telegram_of (acknowledges called p)) ≡ Opens
+          opens_it : judged (r₂ p) (a p) p.fifth.time (telegram_of (acknowledges called p)) ≡ Opens
           unfolding become end_of expected_now good_number pick
-          opens-it =
+          opens_it =
               let number-is-mine : good_number (r₂ p) 2 (telegram_of (acknowledges called p)) ≡ true =
               eq-eqb (authentication_of (telegram_of (acknowledges called p))) (authentication_number (here p).level (back 2 (next (next (R p)))))
-              (ap (λ (vs : List ℕ). get_or vs 0 0) acknowledgement-there.fields ∙ rw (same-level, back_two (R p) s.random_here) refl) in
-              judged_by (b p) (a p) p.fifth.time (there p) (r₂ p) (telegram_of (acknowledges called p)) kind.Acknowledgement _ _ 4 back-to-here refl
-              (waits_in_time (r₂ p) p.fifth.time (lit≤ tt) (lit≤ tt) s.acknowledged_in_time) acknowledgement-there
+              (ap (λ (vs : List ℕ). get_or vs 0 0) acknowledgement_there.fields ∙ rw (same_level_holds, back_two (R p) s.random_here) refl) in
+              judged_by (b p) (a p) p.fifth.time (there p) (r₂ p) (telegram_of (acknowledges called p)) kind.Acknowledgement _ _ 4 back_to_here refl
+              (waits_in_time (r₂ p) p.fifth.time (lit≤ tt) (lit≤ tt) s.acknowledged_in_time) acknowledgement_there
               ∙ (rw number-is-mine refl)
 
-          fifth-taken : Done (opens called p)
+          fifth_taken : Done (opens called p)
               → Taking (arriving (acknowledges called p) (b p) (there p) (head_then called (authenticates called p) p.while_authenticating) (table_then called (authenticates called p) p.while_authenticating) p.fifth)
               p.i (a p) (r₂ p) Opens
           unfolding become end_of
-          fifth-taken opened =
-              taking (acknowledges called p) (b p) (there p) _ _ p.fifth p.i (a p) (r₂ p) waits-for-acknowledgement back-to-here Opens opens-it opened
+          fifth_taken opened =
+              taking (acknowledges called p) (b p) (there p) _ _ p.fifth p.i (a p) (r₂ p) waits_for_acknowledgement back_to_here Opens opens_it opened
 
 pub demand_2_set_up : Demand2SetUp called
 unfolding become end_of
 demand_2_set_up p s all =
-    let l = fifth-taken p s all.asked all.confirmed all.authenticated all.acknowledged all.opened in
-    let k = fourth-taken p s all.asked all.confirmed all.authenticated all.acknowledged in
+    let l = fifth_taken p s all.asked all.confirmed all.authenticated all.acknowledged all.opened in
+    let k = fourth_taken p s all.asked all.confirmed all.authenticated all.acknowledged in
     record {
       opener = l.does.says;
       responder = k.does.says;
@@ -349,7 +349,7 @@ demand_2_set_up p s all =
                   here = k.holds.there_is;
                   there = l.holds.there_is;
                   open_to =
-                      rw (l.holds.own_is, k.holds.own_is, l.holds.record_is, k.holds.record_is) (record { ends = back-to-here p s; open_here = refl; open_there = refl; number = refl });
+                      rw (l.holds.own_is, k.holds.own_is, l.holds.record_is, k.holds.record_is) (record { ends = back_to_here p s; open_here = refl; open_there = refl; number = refl });
                 };
           };
       opener_watches = watching _ _ l.holds.record_is;
@@ -364,17 +364,17 @@ set_up_is_done p s fit =
     (λ e. let z = fit.closed_here in omega arith) (eq-eqb (here p).phase 1 fit.closed_here) fit.first.allowed in
     let good₁ = good_after (asks called p).outcome.head (asks called p).table p.while_asking (stays_accepted _ p.head p.table p.first.time p.first.out fit.table_here) in
     let confirmed =
-    is-done (asks called p) (a p) (here p) p.head' p.table' p.second p.j (b p) (there p) (responder p s) s.mirror fit.table_there (request-there p s asked 0)
+    is_done (asks called p) (a p) (here p) p.head' p.table' p.second p.j (b p) (there p) (responder p s) s.mirror fit.table_there (request_there p s asked 0)
     (λ e. let z = s.closed_there in omega arith) fit.second in
     let good₂ =
     good_after (confirms called p).outcome.head (confirms called p).table p.while_confirming (stays_accepted _ p.head' p.table' p.second.time p.second.out fit.table_there) in
     let authenticated =
-    is-done (confirms called p) (b p) (there p) _ _ p.third p.i (a p) (r₁ p) (waits-for-confirm p s asked) (back-to-here p s) good₁ (confirm-there p s asked confirmed 0) (λ e. omega arith)
-    (rw (same-level p s) (fits_after _ p.head p.table p.first.time p.first.out p.while_asking (here p).level p.third asked fit.until_third fit.third)) in
+    is_done (confirms called p) (b p) (there p) _ _ p.third p.i (a p) (r₁ p) (waits_for_confirm p s asked) (back_to_here p s) good₁ (confirm_there p s asked confirmed 0) (λ e. omega arith)
+    (rw (same_level_holds p s) (fits_after _ p.head p.table p.first.time p.first.out p.while_asking (here p).level p.third asked fit.until_third fit.third)) in
     let good₃ =
     good_after (authenticates called p).outcome.head (authenticates called p).table p.while_authenticating (stays_accepted _ _ _ p.third.time p.third.out good₁) in
     let acknowledged =
-    is-done (authenticates called p) (a p) (here p) _ _ p.fourth p.j (b p) (q₁ p) (waits-for-authentication p s asked confirmed) s.mirror good₂ (authentication-there p s asked confirmed authenticated)
+    is_done (authenticates called p) (a p) (here p) _ _ p.fourth p.j (b p) (q₁ p) (waits_for_authentication p s asked confirmed) s.mirror good₂ (authentication_there p s asked confirmed authenticated)
     (λ e. omega arith) (fits_after _ p.head' p.table' p.second.time p.second.out p.while_confirming (here p).level p.fourth confirmed fit.until_fourth fit.fourth) in
     record {
       asked = asked;
@@ -382,9 +382,9 @@ set_up_is_done p s fit =
       authenticated = authenticated;
       acknowledged = acknowledged;
       opened =
-          is-done (acknowledges called p) (b p) (there p) _ _ p.fifth p.i (a p) (r₂ p) (waits-for-acknowledgement p s asked confirmed authenticated) (back-to-here p s) good₃
-          (acknowledgement-there p s asked confirmed authenticated acknowledged) (λ e. omega arith)
-          (rw (same-level p s) (fits_after _ _ _ p.third.time p.third.out p.while_authenticating (here p).level p.fifth authenticated fit.until_fifth fit.fifth));
+          is_done (acknowledges called p) (b p) (there p) _ _ p.fifth p.i (a p) (r₂ p) (waits_for_acknowledgement p s asked confirmed authenticated) (back_to_here p s) good₃
+          (acknowledgement_there p s asked confirmed authenticated acknowledged) (λ e. omega arith)
+          (rw (same_level_holds p s) (fits_after _ _ _ p.third.time p.third.out p.while_authenticating (here p).level p.fifth authenticated fit.until_fifth fit.fifth));
     }
 
 pub demand_2_from_the_request : Demand2FromTheRequest called

@@ -17,8 +17,8 @@ use Rattle.checkword.specs.Generators.{generator48, generator32, good48, good32}
 use Rattle.checkword.specs.Polynomial.{Generator}
 use Rattle.checkword.specs.Word.{fallen, shift, feed, run, word}
 use Rattle.checkword.proofs.Bytes.{bytes_take, bytes_drop, number_lt, bytes_of_number}
-use Rattle.checkword.proofs.Run.{run_append, run_is, run-lt, feed-is, feed-lt}
-use Rattle.checkword.proofs.Shift.{shifts, shift-lt, shifts-lt, shifts-add, shifts-inj, shifts-lin}
+use Rattle.checkword.proofs.Run.{run_append, run_is, run_lt, feed_is, feed_lt}
+use Rattle.checkword.proofs.Shift.{shifts, shift_lt, shifts_lt, shifts_add, shifts_inj, shifts_lin}
 use Rattle.checkword.proofs.Xor.{xor_twice, xor_cancel_l}
 use Rattle.echo.proofs.Linear.{Additive, additive_zero, after_additive, shifted_additive, Additives, zeros_additive, bytes_additive, parts, parts_additive, clear, clear_additive, independent, only_zero, each, each_at}
 
@@ -87,35 +87,35 @@ byte_lt (x ∷ l) h (suc k) = byte_lt l h.1 k
 
 module _ (w g : ℕ) (good : Generator w g) where
   -- they are the shifts of the check word
-  moved-is : (n r : ℕ) → r < 2 ^ w → moved w g n r ≡ shifts w g n r
+  moved_is : (n r : ℕ) → r < 2 ^ w → moved w g n r ≡ shifts w g n r
   unfolding shift
-  moved-is zero r h = refl
-  moved-is (suc n) r h =
+  moved_is zero r h = refl
+  moved_is (suc n) r h =
       let bit : r * 2 / 2 ^ w % 2 ≡ r * 2 / 2 ^ w = mod-eq_of_lt ((div-lt_iff_lt-mul (pow_pos w)).1 (omega arith)) in
       ap (moved w g n) (ap (λ (v : ℕ). bit_xor (fallen g v) (r * 2)) bit ∙ xor_comm (fallen g (r * 2 / 2 ^ w)) (r * 2))
-      ∙ moved-is n (shift w g r) (shift-lt w g good r h)
+      ∙ moved_is n (shift w g r) (shift_lt w g good r h)
 
   -- zeros that go in shift the register
-  run-zeros : (n r : ℕ) (l : List ℕ) → r < 2 ^ w → run w g r (replicate n 0 ++ l) ≡ run w g (shifts w g (8 * n) r) l
-  run-zeros zero r l h = refl
-  run-zeros (suc n) r l h =
+  run_zeros : (n r : ℕ) (l : List ℕ) → r < 2 ^ w → run w g r (replicate n 0 ++ l) ≡ run w g (shifts w g (8 * n) r) l
+  run_zeros zero r l h = refl
+  run_zeros (suc n) r l h =
       let count : 8 + 8 * n ≡ 8 * suc n = omega arith in
-      run-zeros n (feed w g r 0) l (feed-lt w g good r 0 h (lit≤ tt))
+      run_zeros n (feed w g r 0) l (feed_lt w g good r 0 h (lit≤ tt))
       ∙ ap (λ (v : ℕ). run w g v l)
-      (ap (shifts w g (8 * n)) (feed-is w g good r 0 h (lit≤ tt) ∙ ap (shifts w g 8) (ap (bit_xor r) (zero-mul (2 ^ (w - 8))) ∙ xor_zero_r r))
-      ∙ sym (shifts-add w g 8 (8 * n) r) ∙ ap (λ (k : ℕ). shifts w g k r) count)
+      (ap (shifts w g (8 * n)) (feed_is w g good r 0 h (lit≤ tt) ∙ ap (shifts w g 8) (ap (bit_xor r) (zero-mul (2 ^ (w - 8))) ∙ xor_zero_r r))
+      ∙ sym (shifts_add w g 8 (8 * n) r) ∙ ap (λ (k : ℕ). shifts w g k r) count)
 
   -- three bytes, s zeros, as many bytes as the check word has and zeros leave 0: then the many are the check word of what stands before them
-  check-word : (a b c s m : ℕ) (l : List ℕ) → Bytes (a ∷ b ∷ c ∷ []) → Bytes l → w ≡ 8 * length l → 24 ≤ w
+  check_word_holds : (a b c s m : ℕ) (l : List ℕ) → Bytes (a ∷ b ∷ c ∷ []) → Bytes l → w ≡ 8 * length l → 24 ≤ w
       → word w g (a ∷ b ∷ c ∷ (replicate s 0 ++ (l ++ (replicate m 0 ++ [])))) ≡ 0 → number l ≡ led w g s (number (a ∷ b ∷ c ∷ []))
-  check-word a b c s m l ha hl size room e =
+  check_word_holds a b c s m l ha hl size room e =
       xor_cancel_l r
-      (shifts-inj w g good (8 * length l + 8 * m) (bit_xor r (number l)) 0
-      (xor_lt w r (number l) r-lt (subst (λ (k : ℕ). number l < 2 ^ k) (sym size) (number_lt l hl))) (pow_pos w)
-      (shifts-add w g (8 * length l) (8 * m) (bit_xor r (number l)) ∙ sym along ∙ e
-      ∙ sym (shifts-lin w g good (8 * length l + 8 * m) 0 0 (pow_pos w) (pow_pos w) ∙ xor_self (shifts w g (8 * length l + 8 * m) 0)))
+      (shifts_inj w g good (8 * length l + 8 * m) (bit_xor r (number l)) 0
+      (xor_lt w r (number l) r_lt (subst (λ (k : ℕ). number l < 2 ^ k) (sym size) (number_lt l hl))) (pow_pos w)
+      (shifts_add w g (8 * length l) (8 * m) (bit_xor r (number l)) ∙ sym along ∙ e
+      ∙ sym (shifts_lin w g good (8 * length l + 8 * m) 0 0 (pow_pos w) (pow_pos w) ∙ xor_self (shifts w g (8 * length l + 8 * m) 0)))
       ∙ sym (xor_self r))
-      ∙ sym (moved-is (24 + 8 * s) top top_lt ∙ shifts-add w g 24 (8 * s) top)
+      ∙ sym (moved_is (24 + 8 * s) top top_lt ∙ shifts_add w g 24 (8 * s) top)
     where
       top : ℕ
       top = number (a ∷ b ∷ c ∷ []) * 2 ^ (w - 24)
@@ -127,22 +127,22 @@ module _ (w g : ℕ) (good : Generator w g) where
       q : ℕ
       q = shifts w g 24 top
 
-      q-lt : q < 2 ^ w
-      q-lt = shifts-lt w g good 24 top top_lt
+      q_lt : q < 2 ^ w
+      q_lt = shifts_lt w g good 24 top top_lt
 
       r : ℕ
       r = shifts w g (8 * s) q
 
-      r-lt : r < 2 ^ w
-      r-lt = shifts-lt w g good (8 * s) q q-lt
+      r_lt : r < 2 ^ w
+      r_lt = shifts_lt w g good (8 * s) q q_lt
 
       along : word w g (a ∷ b ∷ c ∷ (replicate s 0 ++ (l ++ (replicate m 0 ++ [])))) ≡ shifts w g (8 * m) (shifts w g (8 * length l) (bit_xor r (number l)))
       along =
           ap (λ (v : ℕ). run w g v (replicate s 0 ++ (l ++ (replicate m 0 ++ []))))
           (run_is w g good (a ∷ b ∷ c ∷ []) (w - 24) 0 (omega arith) (pow_pos w) ha)
-          ∙ run-zeros s q (l ++ (replicate m 0 ++ [])) q-lt ∙ run_append w g r l (replicate m 0 ++ [])
-          ∙ run-zeros m (run w g r l) [] (run-lt w g good l r r-lt hl)
-          ∙ ap (shifts w g (8 * m)) (run_is w g good l 0 r (omega arith) r-lt hl ∙ ap (λ (v : ℕ). shifts w g (8 * length l) (bit_xor r v)) (mul-one (number l)))
+          ∙ run_zeros s q (l ++ (replicate m 0 ++ [])) q_lt ∙ run_append w g r l (replicate m 0 ++ [])
+          ∙ run_zeros m (run w g r l) [] (run_lt w g good l r r_lt hl)
+          ∙ ap (shifts w g (8 * m)) (run_is w g good l 0 r (omega arith) r_lt hl ∙ ap (λ (v : ℕ). shifts w g (8 * length l) (bit_xor r v)) (mul-one (number l)))
 
   -- where each start passes the test, a change within n bytes, as many as the check word has, that leaves the check word is none
   seen : (n : ℕ) → w ≡ 8 * n → 3 ≤ n → n ≤ 7 → T (each 6 (λ s. independent 24 (wrong w g n s)))
@@ -161,14 +161,14 @@ module _ (w g : ℕ) (good : Generator w g) where
       lead : List ℕ
       lead = get_or ds 3 0 ∷ get_or ds 4 0 ∷ get_or ds 5 0 ∷ []
 
-      lead-bytes : Bytes lead
-      lead-bytes = (byte_lt ds c.bytes 3, (byte_lt ds c.bytes 4, (byte_lt ds c.bytes 5, tt)))
+      lead_bytes : Bytes lead
+      lead_bytes = (byte_lt ds c.bytes 3, (byte_lt ds c.bytes 4, (byte_lt ds c.bytes 5, tt)))
 
       changed : List ℕ
       changed = take n (drop s ds)
 
-      changed-bytes : Bytes changed
-      changed-bytes = bytes_take n (drop s ds) (bytes_drop s ds c.bytes)
+      changed_bytes : Bytes changed
+      changed_bytes = bytes_take n (drop s ds) (bytes_drop s ds c.bytes)
 
       many : length changed ≡ n
       many = omega (arith, length-take n (drop s ds), length-drop s ds)
@@ -186,15 +186,15 @@ module _ (w g : ℕ) (good : Generator w g) where
 
       equal : number changed ≡ led w g s (number lead)
       equal =
-          check-word (get_or ds 3 0) (get_or ds 4 0) (get_or ds 5 0) s m changed lead-bytes changed-bytes (omega (arith, many)) (omega arith)
+          check_word_holds (get_or ds 3 0) (get_or ds 4 0) (get_or ds 5 0) s m changed lead_bytes changed_bytes (omega (arith, many)) (omega arith)
           (ap (λ (l : List ℕ). word w g (lead ++ l)) (sym shape) ∙ e)
 
       whole : echoed ds ≡ trace w g n s (number lead)
       whole =
-          ap₂ {C = List ℕ} (λ (a b : List ℕ). a ++ b) (sym (bytes_of_number 3 lead refl lead-bytes))
+          ap₂ {C = List ℕ} (λ (a b : List ℕ). a ++ b) (sym (bytes_of_number 3 lead refl lead_bytes))
           (shape
           ∙ ap {B = List ℕ} (λ (l : List ℕ). replicate s 0 ++ (l ++ (replicate m 0 ++ [])))
-          (sym (bytes_of_number n changed many changed-bytes) ∙ ap (bytes_of n) equal))
+          (sym (bytes_of_number n changed many changed_bytes) ∙ ap (bytes_of n) equal))
 
       kept : parts places (echoed ds) ≡ 0
       kept = rw (c.number, c.idle_time_holds) (simp xor_twice)
@@ -202,7 +202,7 @@ module _ (w g : ℕ) (good : Generator w g) where
       none : number lead ≡ 0
       none =
           only_zero 24 (wrong w g n s) (parts_additive places (trace w g n s) (trace_additive w g n s))
-          (each_at 6 (λ i. independent 24 (wrong w g n i)) tests s (omega arith)) (number lead) (number_lt lead lead-bytes)
+          (each_at 6 (λ i. independent 24 (wrong w g n i)) tests s (omega arith)) (number lead) (number_lt lead lead_bytes)
           (ap (parts places) (sym whole) ∙ kept)
 
 -- At level 4 it is seen within six bytes ..

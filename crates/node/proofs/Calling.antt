@@ -52,9 +52,9 @@ made_struct 𝓛 T L P y {w} is = LL.makes T P 𝓛 y (LL.vals T L y) (told T L 
 module _ {M : Type 1} {𝓤 : Ura M} {𝓛 : Logic 𝓤} {K : Type 0} {Γ : List (Item 𝓤)} {E : Env 𝓤 𝓛.H} {vs : List Cell} {C : Calls 𝓤 𝓛.H} {Λ : Loops 𝓤 𝓛.H} {q : Post 𝓤 𝓛.H} {rest : Body} {k : ℕ} where
   open 𝓛 use {H}
 
-  pub lands-struct : K → {w : Val} (T : Declared) (L : LL.Laws T) (y : T.D) → Is (row_of T) y (w ∷ []) → In E vs k → (row_of T).mir ≡ (spot_of 𝓤 H E k).0 ∷ []
+  pub lands_struct : K → {w : Val} (T : Declared) (L : LL.Laws T) (y : T.D) → Is (row_of T) y (w ∷ []) → In E vs k → (row_of T).mir ≡ (spot_of 𝓤 H E k).0 ∷ []
       → Step K 𝓛 (‵ (frame_of E (with_at vs k (LL.val T L y))) ∷ Γ) (runs C Λ E rest q) (‵ (frame_of E vs) ∷ Γ) (lands C Λ E (place k []) w rest q)
-  lands-struct t {w} T L y is i ty = lands_as t (told T L y w is).1 i (subst (λ (ts : List Ty). Typed ts (LL.vals T L y)) ty ((LL.lawful T L 𝓛).typed y (LL.vals T L y) (told T L y w is).0)).0
+  lands_struct t {w} T L y is i ty = lands_as t (told T L y w is).1 i (subst (λ (ts : List Ty). Typed ts (LL.vals T L y)) ty ((LL.lawful T L 𝓛).typed y (LL.vals T L y) (told T L y w is).0)).0
 
 abbrev pub lent : ℕ → ℕ → List Record → GName → Bor (List Record)
 lent b o ys δ = record { ref_ptr = (b, o); now = ys }
@@ -65,28 +65,28 @@ loan b o ys α = flent (α ∷ []) ((arr_parts (shares R) (length ys)).part full
 module _ {M : Type 1} {𝓤 : Ura M} {𝓛 : Logic 𝓤} {K : Type 0} {Γ : List (Item 𝓤)} {E : Env 𝓤 𝓛.H} {C : Calls 𝓤 𝓛.H} {Λ : Loops 𝓤 𝓛.H} {q : Post 𝓤 𝓛.H} {f : Name} {xs : List Operand} {d : Place} where
   open 𝓛 use {H, A}
 
-  pub calls-value : K → FmC 𝓤 H 𝓛.laws C → {rest : Body} (c : Contract 𝓤) → Triple 𝓤 (C f) c → (x : c.Ghost) (Y : RattleType) (y : Y.Denot) (ens : Y.Denot → SProp 𝓤)
+  pub calls_value : K → FmC 𝓤 H 𝓛.laws C → {rest : Body} (c : Contract 𝓤) → Triple 𝓤 (C f) c → (x : c.Ghost) (Y : RattleType) (y : Y.Denot) (ens : Y.Denot → SProp 𝓤)
       → ent 𝓤 (sem 𝓛 ftrue) (c.pre x)
       → ((w : Val) → ent 𝓤 (c.post x w) (mean 𝓛 (later (exists (λ (s : Y.Denot). (‵ ftrue ⊛ ‵ (Y.own s (w ∷ []))) ⊛ raw (ens s))))))
       → ((s : Y.Denot) → ent 𝓤 (ens s) (fact 𝓤 (s ≡ y)))
       → Opds K 𝓛 (raw (c.pre x) ∷ Γ) E xs (c.args x)
       → ((w : Val) → Is Y y (w ∷ []) → Seq K 𝓛 Γ (lands C Λ E d w rest q))
       → Seq K 𝓛 Γ (runs C Λ E (seq (call f xs d) rest) q)
-  calls-value t fm c met x Y y ens asks post said os k =
+  calls_value t fm c met x Y y ens asks post said os k =
       nothing t $ use1 𝓛 (raw (c.pre x)) asks $ calls_at t fm c met x os (λ w.
       use1 𝓛 (later (exists (λ (s : Y.Denot). (‵ ftrue ⊛ ‵ (Y.own s (w ∷ []))) ⊛ raw (ens s)))) (post w) $ await t tt $ picks t (λ s. split t $ move t (1 ∷ []) $
       use1 𝓛 (raw (fact 𝓤 (s ≡ y))) (said s) $ heard t (s ≡ y) (λ e. split t $ drop t $
       peeks t Y (Is Y) (shows 𝓛 Y) s (w ∷ []) (λ is. drop t $ k w (subst (λ (z : Y.Denot). Is Y z (w ∷ [])) e is)))))
 
   module _ (b o : ℕ) (ys : List Record) where
-    pub calls-lent : K → FmC 𝓤 H 𝓛.laws C → {rest : Body} → Room R (length ys) → (c : Contract 𝓤) → Triple 𝓤 (C f) c → (x : ℕ → GName → c.Ghost) (Y : RattleType) (y : Y.Denot) (ens : ℕ → GName → Y.Denot → SProp 𝓤)
+    pub calls_lent : K → FmC 𝓤 H 𝓛.laws C → {rest : Body} → Room R (length ys) → (c : Contract 𝓤) → Triple 𝓤 (C f) c → (x : ℕ → GName → c.Ghost) (Y : RattleType) (y : Y.Denot) (ens : ℕ → GName → Y.Denot → SProp 𝓤)
         → ((α : ℕ) (δ : GName) → ent 𝓤 (sep 𝓤 (A.lft (α ∷ []) full_share) (sem 𝓛 ((ShrSlice (named 0) (α ∷ []) R).own_val (lent b o ys δ) (slice_val (b, o) (length ys) ∷ [])))) (c.pre (x α δ)))
         → ((α : ℕ) (δ : GName) (w : Val) → ent 𝓤 (c.post (x α δ) w) (mean 𝓛 (later (exists (λ (s : Y.Denot). ((‵ (flft (α ∷ []) full_share) ⊛ ‵ ftrue) ⊛ ‵ (Y.own s (w ∷ []))) ⊛ raw (ens α δ s))))))
         → ((α : ℕ) (δ : GName) (s : Y.Denot) → ent 𝓤 (ens α δ s) (fact 𝓤 (s ≡ y)))
         → ((α : ℕ) (δ : GName) → Opds K 𝓛 (raw (c.pre (x α δ)) ∷ ‵ (loan b o ys α) ∷ Γ) E xs (c.args (x α δ)))
         → ((w : Val) → Is Y y (w ∷ []) → Seq K 𝓛 (‵ (row R full_share ys b o) ∷ Γ) (lands C Λ E d w rest q))
         → Seq K 𝓛 (‵ (row R full_share ys b o) ∷ Γ) (runs C Λ E (seq (call f xs d) rest) q)
-    calls-lent t fm room c met x Y y ens asks post said os k =
+    calls_lent t fm room c met x Y y ens asks post said os k =
         feq_i t ℕ (length ys) (length ys) refl $ fjoin t $ lft_new t tt (λ α. move t (1 ∷ []) $
         use1 𝓛 (later (exists (λ (δ : GName). ‵ ((ShrSlice (named 0) (α ∷ []) R).own_val (lent b o ys δ) (slice_val (b, o) (length ys) ∷ [])) ⊛ ‵ (loan b o ys α))))
         (lends_shr_slice 𝓛 R (named 0) (α ∷ []) full_share ys b o room) $ await t tt $ picks t (λ δ. split t $

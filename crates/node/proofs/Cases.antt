@@ -41,7 +41,7 @@ none_within e p t q l = rw (← q) (no (leb (p.start + p.count) (length t)) _ _ 
 -- and one that does
 pub part_within : (e : Event) (p : Part) (t : List ℕ) → p ≡ part_of e → p.start + p.count ≤ length t → take (p.start + p.count - p.start) (drop p.start t) ≡ data_of e t
 unfolding data_of
-part_within e p t q l = rw (← q) (yes (leb (p.start + p.count) (length t)) _ _ _ (le-leb _ _ l) (ap (λ (n : ℕ). take n (drop p.start t)) (count-is p.start p.count)))
+part_within e p t q l = rw (← q) (yes (leb (p.start + p.count) (length t)) _ _ _ (le-leb _ _ l) (ap (λ (n : ℕ). take n (drop p.start t)) (count_is p.start p.count)))
   where
-    count-is : (a n : ℕ) → a + n - a ≡ n
-    count-is a n = omega arith
+    count_is : (a n : ℕ) → a + n - a ≡ n
+    count_is a n = omega arith

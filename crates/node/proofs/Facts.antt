@@ -108,37 +108,37 @@ module _ (c : Call) (h : Head) (t : List Record) (time : ℕ) (d : List ℕ) whe
           let z : T (eqb n 0) = rw e tt in
           ap (λ u. u.answer.number) (sym (left_by_step c h t time d z).0) ∙ settled_number s h time ∙ step_number c r h.own time d ∙ sym (answered_by c h t time d z)
 
-  refused-left : (k ≡ 0 → ⊥) → ((called c h t time d).outcome ≡ refused_outcome k h) × (((called c h t time d).table ≡ t) × ((called c h t time d).out ≡ d))
+  refused_left : (k ≡ 0 → ⊥) → ((called c h t time d).outcome ≡ refused_outcome k h) × (((called c h t time d).table ≡ t) × ((called c h t time d).out ≡ d))
   unfolding called pick
-  refused-left ne = let f = ne_eqb k 0 ne in rw f (refl, (refl, refl))
+  refused_left ne = let f = ne_eqb k 0 ne in rw f (refl, (refl, refl))
 
   -- where nothing is refused, the table has nothing against it
-  table-fine : k ≡ 0 → T (eqb n 0)
-  table-fine e = by (eqb n 0) refl
+  table_fine : k ≡ 0 → T (eqb n 0)
+  table_fine e = by (eqb n 0) refl
     where
       by : (b : Bool) → eqb n 0 ≡ b → T (eqb n 0)
       by true f = rw f tt
       by false f = absurd (eqb-false n 0 f (sym (refused_answered c h t time d (rw f tt)) ∙ e))
 
-  done-left : k ≡ 0 → ((called c h t time d).outcome ≡ settled s h time) × ((called c h t time d).table ≡ set t (place_of c t) s.«record»)
+  done_left : k ≡ 0 → ((called c h t time d).outcome ≡ settled s h time) × ((called c h t time d).table ≡ set t (place_of c t) s.«record»)
   unfolding called pick
-  done-left e = let f = eq-eqb k 0 e in rw f (refl, refl)
+  done_left e = let f = eq-eqb k 0 e in rw f (refl, refl)
 
-  done-head : k ≡ 0 → (called c h t time d).outcome.head ≡ at h time
+  done_head : k ≡ 0 → (called c h t time d).outcome.head ≡ at h time
   unfolding settled pick
-  done-head e =
-      let m : s.answer.number ≡ 0 = step_number c r h.own time d ∙ sym (answered_by c h t time d (table-fine e)) ∙ e in
-      ap (λ u. u.head) (done-left e).0 ∙ (let f = eq-eqb s.answer.number 0 m in rw f refl)
+  done_head e =
+      let m : s.answer.number ≡ 0 = step_number c r h.own time d ∙ sym (answered_by c h t time d (table_fine e)) ∙ e in
+      ap (λ u. u.head) (done_left e).0 ∙ (let f = eq-eqb s.answer.number 0 m in rw f refl)
 
 pub first_answered : FirstAnswered called
 first_answered c h t time d = answered c h t time d
 
 pub refused_changes_nothing : RefusedChangesNothing called
 refused_changes_nothing c h t time d ne =
-    let e = answered c h t time d in let left = refused-left c h t time d (λ z. ne (e ∙ z)) in (left.0 ∙ ap (λ m. refused_outcome m h) (sym e), left.1)
+    let e = answered c h t time d in let left = refused_left c h t time d (λ z. ne (e ∙ z)) in (left.0 ∙ ap (λ m. refused_outcome m h) (sym e), left.1)
 
 pub done_sets_the_time : DoneSetsTheTime called
-done_sets_the_time c h t time d e = done-head c h t time d (sym (answered c h t time d) ∙ e)
+done_sets_the_time c h t time d e = done_head c h t time d (sym (answered c h t time d) ∙ e)
 
 -- Every other record
 
@@ -159,8 +159,8 @@ either_table : (P : List Record → Type 0) (c : Call) (h : Head) (t : List Reco
 either_table P c h t time d p q = by (eqb (k c h t time d) 0) refl
   where
     by : (b : Bool) → eqb (k c h t time d) 0 ≡ b → P (called c h t time d).table
-    by true e = rw (done-left c h t time d (eqb-true _ _ e)).1 q
-    by false e = rw (refused-left c h t time d (eqb-false _ _ e)).1.0 p
+    by true e = rw (done_left c h t time d (eqb-true _ _ e)).1 q
+    by false e = rw (refused_left c h t time d (eqb-false _ _ e)).1.0 p
 
 pub others_unchanged : OthersUnchanged called
 others_unchanged =
@@ -247,12 +247,12 @@ unfolding refused_outcome
 stays_accepted c h t time d e = by (eqb (k c h t time d) 0) refl
   where
     by : (b : Bool) → eqb (k c h t time d) 0 ≡ b → accepted (called c h t time d).outcome.head (called c h t time d).table ≡ true
-    by false f = let left = refused-left c h t time d (eqb-false _ _ f) in rw (left.0, left.1.0) e
+    by false f = let left = refused_left c h t time d (eqb-false _ _ f) in rw (left.0, left.1.0) e
     by true f =
-        let z = eqb-true _ _ f in let y = table-fine c h t time d z in let r = record_at t (place_of c t) in
+        let z = eqb-true _ _ f in let y = table_fine c h t time d z in let r = record_at t (place_of c t) in
         let l = leb-true _ _ (fine_by c h t time d y).timely in
         let g = later_kept h time r l (kept h r (accepted_at h t (place_of c t) (table_of h t e).records (placed c h t time d y))) in
-        rw (done-head c h t time d z, (done-left c h t time d z).1)
+        rw (done_head c h t time d z, (done_left c h t time d z).1)
         (accepted_set h time t (place_of c t) _ e l (step_kept c h r time d g) (step_same c r h.own time d))
 
 -- Which record a telegram is for
@@ -323,54 +323,54 @@ module _ (t : List ℕ) where
   abbrev Hands : Event → Type 0
   Hands e = (happened e).event ≡ 2 → data_of e t ≡ net_data t
 
-  hands-data : (low : ℕ) → Hands (event.Data low (net_part t).start (net_part t).count)
+  hands_data : (low : ℕ) → Hands (event.Data low (net_part t).start (net_part t).count)
   unfolding data_of net_data
-  hands-data low x = sym (yes (leb ((net_part t).start + (net_part t).count) (length t)) _ _ _ (le-leb _ _ (inside_by (net_part t) t refl)) refl)
+  hands_data low x = sym (yes (leb ((net_part t).start + (net_part t).count) (length t)) _ _ _ (le-leb _ _ (inside_by (net_part t) t refl)) refl)
 
-  hands-nothing : Hands event.Nothing
-  hands-nothing x = absurd (omega arith)
+  hands_nothing : Hands event.Nothing
+  hands_nothing x = absurd (omega arith)
 
-  picked-hands : (b : Bool) (s u : Step) → Hands s.event → Hands u.event → Hands (pick b s u).event
+  picked_hands : (b : Bool) (s u : Step) → Hands s.event → Hands u.event → Hands (pick b s u).event
   unfolding pick
-  picked-hands true s u p q = p
-  picked-hands false s u p q = q
+  picked_hands true s u p q = p
+  picked_hands false s u p q = q
 
-  refused-hands : (n : ℕ) (r : Record) → Hands (refused_step n r).event
+  refused_hands : (n : ℕ) (r : Record) → Hands (refused_step n r).event
   unfolding refused_step
-  refused-hands n r = hands-nothing
+  refused_hands n r = hands_nothing
 
-  quiet-hands : (q : Record) (e : Event) → Hands e → Hands (quietly q e).event
+  quiet_hands : (q : Record) (e : Event) → Hands e → Hands (quietly q e).event
   unfolding quietly
-  quiet-hands q e h = h
+  quiet_hands q e h = h
 
-  writing-hands : (w : Written) (r q : Record) (kind : ℕ) (e : Event) → Hands e → Hands (writing_step w r q kind e).event
+  writing_hands : (w : Written) (r q : Record) (kind : ℕ) (e : Event) → Hands e → Hands (writing_step w r q kind e).event
   unfolding writing_step
-  writing-hands w r q kind e h = picked-hands (eqb w.answer 0) _ _ h (refused-hands w.answer r)
+  writing_hands w r q kind e h = picked_hands (eqb w.answer 0) _ _ h (refused_hands w.answer r)
 
-  act-hands : (v : Verdict) (r : Record) (own time random declared : ℕ) (net d : List ℕ) → Hands (act_of v r own time random declared t net d).event
-  act-hands Nothing r own time random declared net d = quiet-hands r _ hands-nothing
-  act-hands Confirm r own time random declared net d = writing-hands _ r _ 2 _ hands-nothing
-  act-hands Authenticate r own time random declared net d = writing-hands _ r _ 3 _ hands-nothing
-  act-hands Acknowledge r own time random declared net d = writing-hands _ r _ 4 _ (λ x. absurd (omega arith))
-  act-hands Opens r own time random declared net d = quiet-hands _ _ (λ x. absurd (omega arith))
-  act-hands Data r own time random declared net d = quiet-hands _ _ (hands-data _)
-  act-hands Idle r own time random declared net d = quiet-hands _ _ hands-nothing
-  act-hands SendIdle r own time random declared net d = writing-hands _ r _ 6 _ hands-nothing
-  act-hands Disconnected r own time random declared net d = quiet-hands _ _ (λ x. absurd (omega arith))
-  act-hands (Closes reason last) r own time random declared net d = writing-hands _ r _ 5 _ (λ x. absurd (omega arith))
+  act_hands : (v : Verdict) (r : Record) (own time random declared : ℕ) (net d : List ℕ) → Hands (act_of v r own time random declared t net d).event
+  act_hands Nothing r own time random declared net d = quiet_hands r _ hands_nothing
+  act_hands Confirm r own time random declared net d = writing_hands _ r _ 2 _ hands_nothing
+  act_hands Authenticate r own time random declared net d = writing_hands _ r _ 3 _ hands_nothing
+  act_hands Acknowledge r own time random declared net d = writing_hands _ r _ 4 _ (λ x. absurd (omega arith))
+  act_hands Opens r own time random declared net d = quiet_hands _ _ (λ x. absurd (omega arith))
+  act_hands Data r own time random declared net d = quiet_hands _ _ (hands_data _)
+  act_hands Idle r own time random declared net d = quiet_hands _ _ hands_nothing
+  act_hands SendIdle r own time random declared net d = writing_hands _ r _ 6 _ hands_nothing
+  act_hands Disconnected r own time random declared net d = quiet_hands _ _ (λ x. absurd (omega arith))
+  act_hands (Closes reason last) r own time random declared net d = writing_hands _ r _ 5 _ (λ x. absurd (omega arith))
 
-  received-hands : (r : Record) (own time random : ℕ) (i : IdleTime) (net d : List ℕ) → Hands (received_of r own time random i t net d).event
+  received_hands : (r : Record) (own time random : ℕ) (i : IdleTime) (net d : List ℕ) → Hands (received_of r own time random i t net d).event
   unfolding received_of
-  received-hands r own time random i net d =
-      picked-hands (eqb (received_refusal r own i t net d) 0) _ _ (act-hands (judged r own time t) r own time random (declared_by i) net d) (refused-hands (received_refusal r own i t net d) r)
+  received_hands r own time random i net d =
+      picked_hands (eqb (received_refusal r own i t net d) 0) _ _ (act_hands (judged r own time t) r own time random (declared_by i) net d) (refused_hands (received_refusal r own i t net d) r)
 
-  settled-hands : (s : Step) (h : Head) (time : ℕ) → Hands s.event → Hands (settled s h time).event
+  settled_hands : (s : Step) (h : Head) (time : ℕ) → Hands s.event → Hands (settled s h time).event
   unfolding settled refused_outcome pick
-  settled-hands s h time p = by (eqb s.answer.number 0)
+  settled_hands s h time p = by (eqb s.answer.number 0)
     where
       by : (b : Bool) → Hands (pick b (record { head = at h time; answer = s.answer; event = s.event }) (refused_outcome s.answer.number h)).event
       by true = p
-      by false = hands-nothing
+      by false = hands_nothing
 
 pub net_data_handed_on : NetDataHandedOn called
 unfolding refused_outcome
@@ -380,5 +380,5 @@ net_data_handed_on w random i telegram net h t time d = by (eqb (k c h t time d)
     c = Received w random i telegram net
 
     by : (b : Bool) → eqb (k c h t time d) 0 ≡ b → Hands telegram (called c h t time d).outcome.event
-    by true e = rw (done-left c h t time d (eqb-true _ _ e)).0 (settled-hands telegram _ h time (received-hands telegram _ h.own time random i net d))
-    by false e = rw (refused-left c h t time d (eqb-false _ _ e)).0 (hands-nothing telegram)
+    by true e = rw (done_left c h t time d (eqb-true _ _ e)).0 (settled_hands telegram _ h time (received_hands telegram _ h.own time random i net d))
+    by false e = rw (refused_left c h t time d (eqb-false _ _ e)).0 (hands_nothing telegram)

@@ -37,26 +37,26 @@ use Rattle.node.proofs.matching.first_match.Met as match-thm
 module _ {M : Type 1} {𝓤 : Ura M} (𝓛 : Logic 𝓤) (𝓜 : Model 𝓤 𝓛.H) (𝓡 : Running 𝓤 𝓛.H 𝓜) (γ : Env) where
   open 𝓛 use {H}
 
-  pub settle-known : γ #settle ≡ settle-def.routine → Triple 𝓤 ((tables 𝓤 H 𝓜 𝓡 γ).C #settle) (Settle 𝓛 𝓜.mem 𝓡.run)
-  settle-known e = cited 𝓤 H (Settle 𝓛 𝓜.mem 𝓡.run) 𝓜 𝓡 γ #settle settle-def.routine e (settle-thm.met 𝓤 𝓛 𝓜 𝓡)
+  pub settle_known : γ #settle ≡ settle-def.routine → Triple 𝓤 ((tables 𝓤 H 𝓜 𝓡 γ).C #settle) (Settle 𝓛 𝓜.mem 𝓡.run)
+  settle_known e = cited 𝓤 H (Settle 𝓛 𝓜.mem 𝓡.run) 𝓜 𝓡 γ #settle settle-def.routine e (settle-thm.met 𝓤 𝓛 𝓜 𝓡)
 
-  pub refuse-known : γ #refuse ≡ refuse-def.routine → Triple 𝓤 ((tables 𝓤 H 𝓜 𝓡 γ).C #refuse) (Refuse 𝓛 𝓜.mem 𝓡.run)
-  refuse-known e = cited 𝓤 H (Refuse 𝓛 𝓜.mem 𝓡.run) 𝓜 𝓡 γ #refuse refuse-def.routine e (refuse-thm.met 𝓤 𝓛 𝓜 𝓡)
+  pub refuse_known : γ #refuse ≡ refuse-def.routine → Triple 𝓤 ((tables 𝓤 H 𝓜 𝓡 γ).C #refuse) (Refuse 𝓛 𝓜.mem 𝓡.run)
+  refuse_known e = cited 𝓤 H (Refuse 𝓛 𝓜.mem 𝓡.run) 𝓜 𝓡 γ #refuse refuse-def.routine e (refuse-thm.met 𝓤 𝓛 𝓜 𝓡)
 
   pub plain_known : γ #plain ≡ plain-def.routine → Triple 𝓤 ((tables 𝓤 H 𝓜 𝓡 γ).C #plain) (Plain 𝓛 𝓜.mem 𝓡.run)
   plain_known e = cited 𝓤 H (Plain 𝓛 𝓜.mem 𝓡.run) 𝓜 𝓡 γ #plain plain-def.routine e (plain-thm.met 𝓤 𝓛 𝓜 𝓡)
 
-  pub idle-known : γ #idle ≡ idle-def.routine → Triple 𝓤 ((tables 𝓤 H 𝓜 𝓡 γ).C #idle) (NameIdle 𝓛 𝓜.mem 𝓡.run)
-  idle-known e = cited 𝓤 H (NameIdle 𝓛 𝓜.mem 𝓡.run) 𝓜 𝓡 γ #idle idle-def.routine e (idle-thm.met 𝓤 𝓛 𝓜 𝓡)
+  pub idle_known : γ #idle ≡ idle-def.routine → Triple 𝓤 ((tables 𝓤 H 𝓜 𝓡 γ).C #idle) (NameIdle 𝓛 𝓜.mem 𝓡.run)
+  idle_known e = cited 𝓤 H (NameIdle 𝓛 𝓜.mem 𝓡.run) 𝓜 𝓡 γ #idle idle-def.routine e (idle-thm.met 𝓤 𝓛 𝓜 𝓡)
 
-  pub route-known : γ #route ≡ route-def.routine → Triple 𝓤 ((tables 𝓤 H 𝓜 𝓡 γ).C #route) (NameRoute 𝓛 𝓜.mem 𝓡.run)
-  route-known e = cited 𝓤 H (NameRoute 𝓛 𝓜.mem 𝓡.run) 𝓜 𝓡 γ #route route-def.routine e (route-thm.met 𝓤 𝓛 𝓜 𝓡)
+  pub route_known : γ #route ≡ route-def.routine → Triple 𝓤 ((tables 𝓤 H 𝓜 𝓡 γ).C #route) (NameRoute 𝓛 𝓜.mem 𝓡.run)
+  route_known e = cited 𝓤 H (NameRoute 𝓛 𝓜.mem 𝓡.run) 𝓜 𝓡 γ #route route-def.routine e (route-thm.met 𝓤 𝓛 𝓜 𝓡)
 
-  pub carry-known : γ #carry ≡ carry-def.routine → Triple 𝓤 ((tables 𝓤 H 𝓜 𝓡 γ).C #carry) (Carry 𝓛 𝓜.mem 𝓡.run)
-  carry-known e = cited 𝓤 H (Carry 𝓛 𝓜.mem 𝓡.run) 𝓜 𝓡 γ #carry carry-def.routine e (carry-thm.met 𝓤 𝓛 𝓜 𝓡)
+  pub carry_known : γ #carry ≡ carry-def.routine → Triple 𝓤 ((tables 𝓤 H 𝓜 𝓡 γ).C #carry) (Carry 𝓛 𝓜.mem 𝓡.run)
+  carry_known e = cited 𝓤 H (Carry 𝓛 𝓜.mem 𝓡.run) 𝓜 𝓡 γ #carry carry-def.routine e (carry-thm.met 𝓤 𝓛 𝓜 𝓡)
 
-  pub ask-known : γ #ask ≡ ask-def.routine → Triple 𝓤 ((tables 𝓤 H 𝓜 𝓡 γ).C #ask) (Ask 𝓛 𝓜.mem 𝓡.run)
-  ask-known e = cited 𝓤 H (Ask 𝓛 𝓜.mem 𝓡.run) 𝓜 𝓡 γ #ask ask-def.routine e (ask-thm.met 𝓤 𝓛 𝓜 𝓡)
+  pub ask_known : γ #ask ≡ ask-def.routine → Triple 𝓤 ((tables 𝓤 H 𝓜 𝓡 γ).C #ask) (Ask 𝓛 𝓜.mem 𝓡.run)
+  ask_known e = cited 𝓤 H (Ask 𝓛 𝓜.mem 𝓡.run) 𝓜 𝓡 γ #ask ask-def.routine e (ask-thm.met 𝓤 𝓛 𝓜 𝓡)
 
-  pub match-known : γ #match ≡ match-def.routine → Triple 𝓤 ((tables 𝓤 H 𝓜 𝓡 γ).C #match) (Match 𝓛 𝓜.mem 𝓡.run)
-  match-known e = cited 𝓤 H (Match 𝓛 𝓜.mem 𝓡.run) 𝓜 𝓡 γ #match match-def.routine e (match-thm.met 𝓤 𝓛 𝓜 𝓡)
+  pub match_known : γ #match ≡ match-def.routine → Triple 𝓤 ((tables 𝓤 H 𝓜 𝓡 γ).C #match) (Match 𝓛 𝓜.mem 𝓡.run)
+  match_known e = cited 𝓤 H (Match 𝓛 𝓜.mem 𝓡.run) 𝓜 𝓡 γ #match match-def.routine e (match-thm.met 𝓤 𝓛 𝓜 𝓡)

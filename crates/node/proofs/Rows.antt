@@ -59,10 +59,10 @@ pub byte_fits : (n i : ℕ) → Room R n → i < n → i * record_size < 2 ^ 64
 byte_fits n i room l = let h : n * record_size < 2 ^ 63 = room.1 in omega (arith, h, l)
 
 module _ {M : Type 1} {𝓤 : Ura M} {𝓛 : Logic 𝓤} {K : Type 0} {Γ : List (Item 𝓤)} {G : Goal 𝓤 𝓛.H} where
-  pub looks-rows : K → Soaks G → {κ : Lft} {q : Share} (ys : List Record) (b o : ℕ)
+  pub looks_rows : K → Soaks G → {κ : Lft} {q : Share} (ys : List Record) (b o : ℕ)
       → ((q' : Share) → Seq K 𝓛 (‵ (row R q' ys b o) ∷ ‵ (fobor κ q ((arr_parts (shares R) (length ys)).part q' ys b o)) ∷ ‵ (fshr_bor κ (λ s. (arr_parts (shares R) (length ys)).part s ys b o)) ∷ Γ) G)
       → Seq K 𝓛 (‵ (fshr_bor κ (λ s. (arr_parts (shares R) (length ys)).part s ys b o)) ∷ ‵ (flft κ q) ∷ Γ) G
-  looks-rows t z ys b o k = looks_slice t z R (Is R) (shows 𝓛 R) vals tells (LL.copy T.the_type T'.the_copy 𝓛) ys b o k
+  looks_rows t z ys b o k = looks_slice t z R (Is R) (shows 𝓛 R) vals tells (LL.copy T.the_type T'.the_copy 𝓛) ys b o k
 
   pub row_out : K → (q : Share) (ys : List Record) (i : ℕ) (b o : ℕ) → i < length ys
       → (Is R (record_at ys i) (vals (record_at ys i))

@@ -42,8 +42,8 @@ module _ (w : Route) (t : List Record) (i : ℕ) where
   pub found_none : length t ≤ i → Passed → i ≡ first_match w t
   found_none h e = let z : first_match w (drop i t) ≡ 0 = ap (first_match w) (drop_of_length-le t h) in omega arith
 
-  pub found-later : i < length t → T (not (is_for w (record_at t i))) → Passed → first_match w t ≡ (i + 1) + first_match w (drop (i + 1) t)
-  found-later h m e =
+  pub found_later : i < length t → T (not (is_for w (record_at t i))) → Passed → first_match w t ≡ (i + 1) + first_match w (drop (i + 1) t)
+  found_later h m e =
       let z : first_match w (drop i t) ≡ suc (first_match w (drop (suc i) t)) = ap (first_match w) (drop-cons t i nowhere h) ∙ pick_false (is_for w (record_at t i)) zero _ m in
       rw add-one (omega arith)
 
@@ -52,17 +52,17 @@ module _ (h : Head) (t : List Record) (i : ℕ) where
   abbrev pub Good : Type 0
   Good = all_accepted h t ≡ all_accepted h (drop i t)
 
-  pub good-all : length t ≤ i → Good → leb (length t) i ≡ all_accepted h t
-  good-all l e = le-leb (length t) i l ∙ sym (e ∙ ap (all_accepted h) (drop_of_length-le t l))
+  pub good_all : length t ≤ i → Good → leb (length t) i ≡ all_accepted h t
+  good_all l e = le-leb (length t) i l ∙ sym (e ∙ ap (all_accepted h) (drop_of_length-le t l))
 
   abbrev good : Bool
   good = record_accepted h (record_at t i)
 
-  pub good-not : i < length t → T (not good) → Good → leb (length t) i ≡ all_accepted h t
-  good-not l m e = lt-leb (length t) i l ∙ sym (e ∙ ap (all_accepted h) (drop-cons t i nowhere l) ∙ pick_false good _ false m)
+  pub good_not : i < length t → T (not good) → Good → leb (length t) i ≡ all_accepted h t
+  good_not l m e = lt-leb (length t) i l ∙ sym (e ∙ ap (all_accepted h) (drop-cons t i nowhere l) ∙ pick_false good _ false m)
 
-  pub good-later : i < length t → T (not (not good)) → Good → all_accepted h t ≡ all_accepted h (drop (i + 1) t)
-  good-later l m e = rw add-one (e ∙ ap (all_accepted h) (drop-cons t i nowhere l) ∙ pick_true good _ false (not_not good m))
+  pub good_later : i < length t → T (not (not good)) → Good → all_accepted h t ≡ all_accepted h (drop (i + 1) t)
+  good_later l m e = rw add-one (e ∙ ap (all_accepted h) (drop-cons t i nowhere l) ∙ pick_true good _ false (not_not good m))
 
 -- whether two records are alike
 module _ (t : List Record) (i : ℕ) where
@@ -77,8 +77,8 @@ module _ (t : List Record) (i : ℕ) where
   abbrev pub Inner : ℕ → Type 0
   Inner j = has_pair t ≡ pick (has_like (record_at t i) (drop j t)) true Rest
 
-  pub outer-none : length t ≤ i → Outer → false ≡ has_pair t
-  outer-none h e = sym (e ∙ ap has_pair (drop_of_length-le t h))
+  pub outer_none : length t ≤ i → Outer → false ≡ has_pair t
+  outer_none h e = sym (e ∙ ap has_pair (drop_of_length-le t h))
 
   pub inner_start : i < length t → Outer → Inner (i + 1)
   inner_start h e = rw add-one (e ∙ ap has_pair (drop-cons t i nowhere h))
@@ -90,31 +90,31 @@ module _ (t : List Record) (i : ℕ) where
     at_j : j < length t → Inner j → has_pair t ≡ pick (pick here true (has_like (record_at t i) (drop (suc j) t))) true Rest
     at_j h e = e ∙ ap (λ (m : List Record). pick (has_like (record_at t i) m) true Rest) (drop-cons t j nowhere h)
 
-    pub inner-here : j < length t → T here → Inner j → true ≡ has_pair t
+    pub inner_here : j < length t → T here → Inner j → true ≡ has_pair t
     unfolding pick
-    inner-here h m e = sym (at_j h e ∙ ap (λ (z : Bool). pick z true Rest) (pick_true here true _ m))
+    inner_here h m e = sym (at_j h e ∙ ap (λ (z : Bool). pick z true Rest) (pick_true here true _ m))
 
-    pub inner-later : j < length t → T (not here) → Inner j → Inner (j + 1)
-    inner-later h m e =
+    pub inner_later : j < length t → T (not here) → Inner j → Inner (j + 1)
+    inner_later h m e =
         at_j h e ∙ ap (λ (z : Bool). pick z true Rest) (pick_false here true _ m) ∙ ap (λ (k : ℕ). pick (has_like (record_at t i) (drop k t)) true Rest) (sym (add-one j))
 
-    pub inner-none : length t ≤ j → Inner j → has_pair t ≡ Rest
+    pub inner_none : length t ≤ j → Inner j → has_pair t ≡ Rest
     unfolding pick
-    inner-none h e = e ∙ ap (λ (m : List Record). pick (has_like (record_at t i) m) true Rest) (drop_of_length-le t h)
+    inner_none h e = e ∙ ap (λ (m : List Record). pick (has_like (record_at t i) m) true Rest) (drop_of_length-le t h)
 
 -- which tables are accepted, test by test
 module _ (h : Head) (t : List Record) where
   abbrev bounded : Bool
   bounded = bounds_accepted (length t) h.own
 
-  pub refused-bounds : T (not bounded) → false ≡ accepted h t
+  pub refused_bounds : T (not bounded) → false ≡ accepted h t
   unfolding accepted
-  refused-bounds m = sym (pick_false bounded _ false m)
+  refused_bounds m = sym (pick_false bounded _ false m)
 
-  pub refused-record : T (not (not bounded)) → T (not (all_accepted h t)) → false ≡ accepted h t
+  pub refused_record : T (not (not bounded)) → T (not (all_accepted h t)) → false ≡ accepted h t
   unfolding accepted
-  refused-record m n = sym (pick_true bounded _ false (not_not bounded m) ∙ pick_false (all_accepted h t) _ false n)
+  refused_record m n = sym (pick_true bounded _ false (not_not bounded m) ∙ pick_false (all_accepted h t) _ false n)
 
-  pub by-pairs : T (not (not bounded)) → T (not (not (all_accepted h t))) → not (has_pair t) ≡ accepted h t
+  pub by_pairs : T (not (not bounded)) → T (not (not (all_accepted h t))) → not (has_pair t) ≡ accepted h t
   unfolding accepted
-  by-pairs m n = sym (pick_true bounded _ false (not_not bounded m) ∙ pick_true (all_accepted h t) _ false (not_not (all_accepted h t) n))
+  by_pairs m n = sym (pick_true bounded _ false (not_not bounded m) ∙ pick_true (all_accepted h t) _ false (not_not (all_accepted h t) n))

@@ -50,7 +50,7 @@ use Rattle.node.proofs.Outcome.TheLaws as O'
 use Rattle.node.proofs.Rows.{R, val as val_of, vals as vals_of, makes, typed, record_size, place_of, byte_fits, row_out}
 use Rattle.ground.proofs.Meeting.{obs_finally}
 use Rattle.ground.proofs.Frame.{Cell, some, none_away, frame_of, with_at, held_in, In, local, typed-as, val, sets, gives, gives-within}
-use Rattle.node.proofs.Calling.{told, lands-struct, made_struct}
+use Rattle.node.proofs.Calling.{told, lands_struct, made_struct}
 use Rattle.node.proofs.Shared.{Settle, settles, Refuse, refuses, own_fits}
 use Rattle.node.proofs.outcomes.settle.Symbol.{name as #settle}
 use Rattle.node.proofs.outcomes.refused.Symbol.{name as #refuse}
@@ -60,16 +60,16 @@ abbrev pub table_lasts : MutBor (List Record) → List Record → Fml → Fml
 table_lasts x zs F = fsep (fsep (finally R x.ghost_name zs) (feq ℕ (length zs) (length x.now))) (fsep ftrue (fsep ftrue (fsep ftrue F)))
 
 module _ {M : Type 1} {𝓤 : Ura M} {𝓛 : Logic 𝓤} {K : Type 0} {Γ : List (Item 𝓤)} {G : Goal 𝓤 𝓛.H} {κ : Lft} {q : Share} {Ts : Item 𝓤} {F : Fml} where
-  pub opens-table : K → Soaks G → {P Q X : Fml} (x : MutBor (List Record)) {vs : List Val}
+  pub opens_table : K → Soaks G → {P Q X : Fml} (x : MutBor (List Record)) {vs : List Val}
       → Step K 𝓛 (‵ (row R full_share x.now x.ref_ptr.0 x.ref_ptr.1) ∷ ‵ (fobor κ q (Held R (length x.now) x.ref_ptr.0 x.ref_ptr.1 x.ghost_name)) ∷ ‵ (fobs x.ghost_name ((coded_holeys R).code (heres R x.now))) ∷ ‵ (fauth x.ghost_name ((coded_holeys R).code (heres R x.now))) ∷ Ts ∷ ‵ F ∷ Γ) G
       ((‵ (flft κ q) ⊛ Ts) ∷ ‵ (fsep ((MutSlice (named 0) κ R).own_val x vs) (fsep P (fsep Q (fsep X F)))) ∷ Γ) G
-  opens-table t z x = step (λ s. split t $ move t (2 ∷ []) $ fsplit t $ fsplit t $ drop t $ fsplit t $ move t (0 ∷ 1 ∷ 3 ∷ []) $ opens_slice t z R x.now x.ref_ptr.0 x.ref_ptr.1 $
+  opens_table t z x = step (λ s. split t $ move t (2 ∷ []) $ fsplit t $ fsplit t $ drop t $ fsplit t $ move t (0 ∷ 1 ∷ 3 ∷ []) $ opens_slice t z R x.now x.ref_ptr.0 x.ref_ptr.1 $
       move t (4 ∷ []) $ fsplit t $ drop t $ fsplit t $ drop t $ fsplit t $ drop t $ move t (1 ∷ 2 ∷ 3 ∷ 4 ∷ 5 ∷ []) $ s)
 
-  pub closes-table : K → Soaks G → (x : MutBor (List Record)) (zs : List Record) → length zs ≡ length x.now
+  pub closes_table : K → Soaks G → (x : MutBor (List Record)) (zs : List Record) → length zs ≡ length x.now
       → Step K 𝓛 (‵ (table_lasts x zs F) ∷ (‵ (flft κ q) ⊛ Ts) ∷ Γ) G
       (‵ (row R full_share zs x.ref_ptr.0 x.ref_ptr.1) ∷ ‵ (fobor κ q (Held R (length x.now) x.ref_ptr.0 x.ref_ptr.1 x.ghost_name)) ∷ ‵ (fobs x.ghost_name ((coded_holeys R).code (heres R x.now))) ∷ ‵ (fauth x.ghost_name ((coded_holeys R).code (heres R x.now))) ∷ Ts ∷ ‵ F ∷ Γ) G
-  closes-table t z x zs lz = step (λ s. closes_slice t z R x.now zs lz x.ref_ptr.0 x.ref_ptr.1 $ use1 𝓛 (‵ (finally R x.ghost_name zs)) (obs_finally 𝓛 R x.ghost_name zs) $ feq_i t ℕ (length zs) (length x.now) lz $ move t (1 ∷ 0 ∷ []) $ fjoin t $
+  closes_table t z x zs lz = step (λ s. closes_slice t z R x.now zs lz x.ref_ptr.0 x.ref_ptr.1 $ use1 𝓛 (‵ (finally R x.ghost_name zs)) (obs_finally 𝓛 R x.ghost_name zs) $ feq_i t ℕ (length zs) (length x.now) lz $ move t (1 ∷ 0 ∷ []) $ fjoin t $
       move t (1 ∷ []) $ drop t $ move t (3 ∷ []) $ nothing t $ fjoin t $ nothing t $ fjoin t $ nothing t $ fjoin t $ move t (1 ∷ 0 ∷ []) $ fjoin t $ move t (1 ∷ 2 ∷ []) $ join t $ move t (1 ∷ 0 ∷ []) $ s)
 
 -- element n of the table, local 1: its place in bytes is computed in local a, and its address in local p
@@ -113,9 +113,9 @@ module _ {M : Type 1} {𝓤 : Ura M} {𝓛 : Logic 𝓤} {K : Type 0} {Γ : List
   pub hands : K → (o : Record) (h : Head) → Is R o (vals_of o) → Is HD.the_row h (LL.vals HD.the_type HD'.the_laws h) → Step K 𝓛 (‵ (fsep (R.own o (vals_of o)) (fsep (u32.own_val h.own (vint w32 h.own ∷ [])) F)) ∷ Γ) G (‵ F ∷ Γ) G
   hands t o h g gh = step (λ s. owned t u32 (Is u32) (uint_Makes 𝓛 w32) h.own (vint w32 h.own ∷ []) (refl, own_fits h gh) $ fjoin t $ owned t R (Is R) (makes 𝓛) o (vals_of o) g $ fjoin t $ s)
 
-  pub hands-time : K → (o : Record) (h : Head) (time : ℕ) → Is R o (vals_of o) → Is HD.the_row h (LL.vals HD.the_type HD'.the_laws h) → time < 2 ^ 64
+  pub hands_time : K → (o : Record) (h : Head) (time : ℕ) → Is R o (vals_of o) → Is HD.the_row h (LL.vals HD.the_type HD'.the_laws h) → time < 2 ^ 64
       → Step K 𝓛 (‵ (fsep (R.own o (vals_of o)) (fsep (u32.own_val h.own (vint w32 h.own ∷ [])) (fsep (u64.own_val time (vint w64 time ∷ [])) F))) ∷ Γ) G (‵ F ∷ Γ) G
-  hands-time t o h time g gh gt = step (λ s. owned t u64 (Is u64) (uint_Makes 𝓛 w64) time (vint w64 time ∷ []) (refl, gt) $ fjoin t $ owned t u32 (Is u32) (uint_Makes 𝓛 w32) h.own (vint w32 h.own ∷ []) (refl, own_fits h gh) $ fjoin t $ owned t R (Is R) (makes 𝓛) o (vals_of o) g $ fjoin t $ s)
+  hands_time t o h time g gh gt = step (λ s. owned t u64 (Is u64) (uint_Makes 𝓛 w64) time (vint w64 time ∷ []) (refl, gt) $ fjoin t $ owned t u32 (Is u32) (uint_Makes 𝓛 w32) h.own (vint w32 h.own ∷ []) (refl, own_fits h gh) $ fjoin t $ owned t R (Is R) (makes 𝓛) o (vals_of o) g $ fjoin t $ s)
 
 -- the ways out: h is local 2, and the time is local 3
 module _ {M : Type 1} {𝓤 : Ura M} {𝓛 : Logic 𝓤} {K : Type 0} {Γ : List (Item 𝓤)} {E : Env 𝓤 𝓛.H} {vs : List Cell} {C : Calls 𝓤 𝓛.H} {Λ : Loops 𝓤 𝓛.H} {κ : Lft} {r : Share} {Ts : Item 𝓤} {F : Fml} where
@@ -136,19 +136,19 @@ module _ {M : Type 1} {𝓤 : Ura M} {𝓛 : Logic 𝓤} {K : Type 0} {Γ : List
       (seq (call #settle (copy (place s []) ∷ copy (place 2 []) ∷ copy (place 3 []) ∷ []) (place 0 [])) return)))) (at_ret E Kf))
   leaves t fm at_mem run met {p = p} {s = s} x n l room {w} z y h time e is gh gt at_i ins ty-a ty-p ty-t ty-s ty-0 at-t at_a ats at-0 whole k =
       let is' = subst (λ (u : LinkStep). Is S.the_row u (w ∷ [])) e is in let gs = (told S.the_type S'.the_laws y w is').0 in let g = (LL.owed S.the_type S'.the_laws y _ gs).0 in
-      move t (2 ∷ []) $ lands-struct t S.the_type S'.the_laws y is' ins.1 (ap (λ (τ : Ty). τ ∷ []) (sym ty-s)) $ points t at_i (byte_fits (length x.now) n room l) ins.0.0 ty-a ty-p ty-t at-t at_a $ move t (0 ∷ 3 ∷ []) $
+      move t (2 ∷ []) $ lands_struct t S.the_type S'.the_laws y is' ins.1 (ap (λ (τ : Ty). τ ∷ []) (sym ty-s)) $ points t at_i (byte_fits (length x.now) n room l) ins.0.0 ty-a ty-p ty-t at-t at_a $ move t (0 ∷ 3 ∷ []) $
       assigns t (of_opd t (load t (from t (fld t (ap (λ (τ : Ty). field_of τ 0) ty-s) (stop t))) (look_in t 0 (sub t 0 refl (typed-as t s ty-s ats.1.0))))) (from t (hop t (look_in t 0 (local t p ats.0)) (stop t))) (store_raw t 1 refl (typed 𝓛 y.«record» g)) $
       move t (4 ∷ []) $ drop t $ owned t R (Is R) (makes 𝓛) y.«record» (vals_of y.«record») g $ move t (2 ∷ 0 ∷ 5 ∷ []) $ elem_put t R full_share x.now n y.«record» (vals_of y.«record») x.ref_ptr.0 x.ref_ptr.1 l $
-      move t (0 ∷ 4 ∷ 5 ∷ 6 ∷ 3 ∷ 2 ∷ []) $ closes-table t tt x (set x.now n y.«record») (length-set x.now n y.«record») $ move t (2 ∷ []) $
-      settles t fm at_mem run met y h time gs gh gt (and_then t (val t 1 refl ats.1.0) (and_then t (val t 1 refl ats.1.1.0) (and_then t (val t 1 refl ats.1.1.1) (no_more t)))) (λ v at. lands-struct t O.the_type O'.the_laws (settled y h time) at ins.0.1 ty-0 $ gives t at-0 whole $
+      move t (0 ∷ 4 ∷ 5 ∷ 6 ∷ 3 ∷ 2 ∷ []) $ closes_table t tt x (set x.now n y.«record») (length-set x.now n y.«record») $ move t (2 ∷ []) $
+      settles t fm at_mem run met y h time gs gh gt (and_then t (val t 1 refl ats.1.0) (and_then t (val t 1 refl ats.1.1.0) (and_then t (val t 1 refl ats.1.1.1) (no_more t)))) (λ v at. lands_struct t O.the_type O'.the_laws (settled y h time) at ins.0.1 ty-0 $ gives t at-0 whole $
       k (made_struct 𝓛 O.the_type O'.the_laws O'.the_plain (settled y h time) at))
 
-  pub refuses-all : K → FmC 𝓤 H 𝓛.laws C → (at_mem : Memory → SProp 𝓤) (run : Routine → Fun 𝓤) → Triple 𝓤 (C #refuse) (Refuse 𝓛 at_mem run) → {q : Post 𝓤 H} (Kf : Val → SProp 𝓤) → post 𝓤 H q returnsᴼ ≡ at_return 𝓤 H E Kf returnsᴼ → {k : ℕ} (x : MutBor (List Record)) (n : ℕ) (h : Head)
+  pub refuses_all : K → FmC 𝓤 H 𝓛.laws C → (at_mem : Memory → SProp 𝓤) (run : Routine → Fun 𝓤) → Triple 𝓤 (C #refuse) (Refuse 𝓛 at_mem run) → {q : Post 𝓤 H} (Kf : Val → SProp 𝓤) → post 𝓤 H q returnsᴼ ≡ at_return 𝓤 H E Kf returnsᴼ → {k : ℕ} (x : MutBor (List Record)) (n : ℕ) (h : Head)
       → n < 2 ^ 32 → Is HD.the_row h (LL.vals HD.the_type HD'.the_laws h) → held_in E vs k ≡ some (vint w32 n) → held_in E vs 2 ≡ some (LL.val HD.the_type HD'.the_laws h) → In E vs 0 → (O.the_row).mir ≡ (spot_of 𝓤 H E 0).0 ∷ []
       → held_in E (with_at vs 0 (LL.val O.the_type O'.the_laws (refused_outcome n h))) 0 ≡ some (LL.val O.the_type O'.the_laws (refused_outcome n h)) → Holds (none_away (with_at vs 0 (LL.val O.the_type O'.the_laws (refused_outcome n h))))
       → (ent 𝓤 (emp 𝓤) (sem 𝓛 ((O.the_row).own_val (refused_outcome n h) (LL.vals O.the_type O'.the_laws (refused_outcome n h)))) → Seq K 𝓛 (‵ (table_lasts x x.now F) ∷ (‵ (flft κ r) ⊛ Ts) ∷ Γ) (prop (Kf (LL.val O.the_type O'.the_laws (refused_outcome n h)))))
       → Seq K 𝓛 (‵ (row R full_share x.now x.ref_ptr.0 x.ref_ptr.1) ∷ ‵ (fobor κ r (Held R (length x.now) x.ref_ptr.0 x.ref_ptr.1 x.ghost_name)) ∷ ‵ (fobs x.ghost_name ((coded_holeys R).code (heres R x.now))) ∷ ‵ (fauth x.ghost_name ((coded_holeys R).code (heres R x.now))) ∷ Ts ∷ ‵ F ∷ ‵ (frame_of E vs) ∷ Γ)
       (runs C Λ E (seq (call #refuse (copy (place k []) ∷ copy (place 2 []) ∷ []) (place 0 [])) return) q)
-  refuses-all t fm at_mem run met Kf e x n h gn gh at_n at-h in-0 ty-0 at-0 whole k =
-      closes-table t tt x x.now refl $ move t (2 ∷ []) $ refuses t fm at_mem run met n h gn gh (and_then t (val t 1 refl at_n) (and_then t (val t 1 refl at-h) (no_more t))) (λ w is. lands-struct t O.the_type O'.the_laws (refused_outcome n h) is in-0 ty-0 $
+  refuses_all t fm at_mem run met Kf e x n h gn gh at_n at-h in-0 ty-0 at-0 whole k =
+      closes_table t tt x x.now refl $ move t (2 ∷ []) $ refuses t fm at_mem run met n h gn gh (and_then t (val t 1 refl at_n) (and_then t (val t 1 refl at-h) (no_more t))) (λ w is. lands_struct t O.the_type O'.the_laws (refused_outcome n h) is in-0 ty-0 $
       gives-within t Kf e at-0 whole $ k (made_struct 𝓛 O.the_type O'.the_laws O'.the_plain (refused_outcome n h) is))

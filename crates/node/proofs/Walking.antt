@@ -33,11 +33,11 @@ pub use denote.Triple.Entry.{Args}
 pub use Rattle.ground.proofs.Walk.{guards}
 pub use Rattle.ground.proofs.Frame.{local, val, vals, sets, lands_as, reborrows, lifts, gives}
 pub use Rattle.ground.proofs.Meeting.{Param, number, spells, tellss, lawfuls, Met, bound, values, Walk, enters_by, ends, slots_of, sames, all_stay, owns_each, lasts_each, exchange, exchanged, in_row, leads, silent, truth, calls-said}
-pub use Rattle.node.proofs.Shared.{Ask, asks-first, Refuse, Settle, Match, matches, Carry, carries, Plain, NameIdle, NameRoute, returns_plain, names-idle, names-route}
+pub use Rattle.node.proofs.Shared.{Ask, asks_first, Refuse, Settle, Match, matches, Carry, carries, Plain, NameIdle, NameRoute, returns_plain, names_idle, names_route}
 pub use Rattle.node.proofs.Order.{Said, refused_by_table, placed, left_by_step}
 pub use Rattle.node.proofs.Searches.{not_not}
-pub use Rattle.node.proofs.Stepping.{opens-table, takes, hands, hands-time, leaves, refuses-all}
-pub use Rattle.node.proofs.Calling.{told, lent, lands-struct, made_struct}
+pub use Rattle.node.proofs.Stepping.{opens_table, takes, hands, hands_time, leaves, refuses_all}
+pub use Rattle.node.proofs.Calling.{told, lent, lands_struct, made_struct}
 use denote.Signature.{AllWithin}
 use Prim.Native.Nat.{ℕ}
 use Rattle.ground.proofs.Meeting.{struct, mut_slice, shr-slice}

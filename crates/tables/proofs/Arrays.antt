@@ -53,9 +53,9 @@ module _ {M : Type 1} {𝓤 : Ura M} (𝓛 : Logic 𝓤) where
   two_typed a b ga gb = ((Array-Lawful 𝓛 R (LL.lawful T.the_type T'.the_laws 𝓛) 2).typed (two a b) (two_val a b ∷ []) (two_is a b ga gb)).0
 
   module _ (l : ℕ) where
-    pub array-in : (a b : Record) → Is R a (vals a) → Is R b (vals b) → ent 𝓤 (H.at full_share (ty_array T'.mir 2) l 0 (two_val a b)) (sem 𝓛 (cells (mem R) (two a b) l 0))
+    pub array_in : (a b : Record) → Is R a (vals a) → Is R b (vals b) → ent 𝓤 (H.at full_share (ty_array T'.mir 2) l 0 (two_val a b)) (sem 𝓛 (cells (mem R) (two a b) l 0))
     unfolding part_of
-    array-in a b ga gb =
+    array_in a b ga gb =
         qed 𝓛 (‵ (fat full_share (ty_array T'.mir 2) l 0 (two_val a b)) ∷ []) ∵
         use1 𝓛 (‵ (cell_at full_share (Array R 2).mir (two_val a b ∷ []) l 0)) (𝓛.laws.at_raw full_share (ty_array T'.mir 2) l 0 (two_val a b)) $
         owned ! (Array R 2) (Is (Array R 2)) (Array-Makes 𝓛 R (makes 𝓛) 2) (two a b) (two_val a b ∷ []) (two_is a b ga gb) $ move ! (1 ∷ 0 ∷ []) $ fjoin ! $
@@ -63,9 +63,9 @@ module _ {M : Type 1} {𝓤 : Ura M} (𝓛 : Logic 𝓤) where
         use1 𝓛 (‵ ((arr_parts (shares R) 2).part full_share (two a b) l 0)) (Array-apart 𝓛 R full_share tt 2 (two a b) l 0) $ fsplit ! $ drop ! $
         use1 𝓛 (‵ (cells (mem R) (two a b) l 0)) (whole_in 𝓛 R (two a b) l 0) $ done !
 
-    pub array-out : (zs : List Record) → length zs ≡ 2 → ent 𝓤 (sem 𝓛 (row R full_share zs l 0)) (H.room (ty_array T'.mir 2) l 0)
+    pub array_out : (zs : List Record) → length zs ≡ 2 → ent 𝓤 (sem 𝓛 (row R full_share zs l 0)) (H.room (ty_array T'.mir 2) l 0)
     unfolding part_of
-    array-out zs e =
+    array_out zs e =
         qed 𝓛 (‵ (row R full_share zs l 0) ∷ []) ∵ feq_i ! ℕ (length zs) 2 e $ fjoin ! $
         use1 𝓛 (‵ (part_at (Array R 2) full_share zs l 0)) (Array-whole 𝓛 R full_share 2 zs l 0) $ fpick ! (λ vs. fsplit ! $ move ! (1 ∷ []) $ fpick ! (λ us. fsplit ! $ fsplit ! $ feq_l ! (λ ev. drop ! $ drop ! $
         rewrite ! 0 (λ (ws : List Val). ‵ (cell_at full_share (Array R 2).mir ws l 0)) ev refl $
@@ -76,9 +76,9 @@ module _ {M : Type 1} {𝓤 : Ura M} {𝓛 : Logic 𝓤} {K : Type 0} {Γ : List
   -- it is lent for a new lifetime α, as a slice δ
   open 𝓛 use {H}
 
-  pub lends-two : K → {G : Goal 𝓤 H} → Soaks G → (l : ℕ) (a b : Record) → Is R a (vals a) → Is R b (vals b)
+  pub lends_two : K → {G : Goal 𝓤 H} → Soaks G → (l : ℕ) (a b : Record) → Is R a (vals a) → Is R b (vals b)
       → ((α : ℕ) (δ : GName) → Seq K 𝓛 (‵ (flft (α ∷ []) full_share) ∷ ‵ ((MutSlice (named 0) (α ∷ []) R).own_val (lent l 0 (two a b) δ) (slice_val (l, 0) 2 ∷ [])) ∷ ‵ (flent (α ∷ []) (Held R 2 l 0 δ)) ∷ Γ) G) → Seq K 𝓛 (‵ (fat full_share (ty_array T'.mir 2) l 0 (two_val a b)) ∷ Γ) G
-  lends-two t z l a b ga gb k = use1 𝓛 (‵ (cells (mem R) (two a b) l 0)) (array-in 𝓛 l a b ga gb) $ lft_new t z (λ α. move t (1 ∷ []) $
+  lends_two t z l a b ga gb k = use1 𝓛 (‵ (cells (mem R) (two a b) l 0)) (array_in 𝓛 l a b ga gb) $ lft_new t z (λ α. move t (1 ∷ []) $
       use1 𝓛 (later (exists (λ (δ : GName). ‵ ((MutSlice (named 0) (α ∷ []) R).own_val (lent l 0 (two a b) δ) (slice_val (l, 0) 2 ∷ [])) ⊛ ‵ (flent (α ∷ []) (Held R 2 l 0 δ))))) (lends_slice 𝓛 R (named 0) (α ∷ []) (two a b) l 0 (lit< tt, lit< tt)) $ await t z $
       picks t (λ δ. split t $ move t (2 ∷ []) $ k α δ))
 
@@ -94,13 +94,13 @@ module _ {M : Type 1} {𝓤 : Ura M} {𝓛 : Logic 𝓤} {K : Type 0} {Γ : List
 
   pub stows : K → (k : ℕ) (zs : List Record) → length zs ≡ 2 → (spot_of 𝓤 H E k).0 ≡ ty_array T'.mir 2 → Within E k → held_in E vs k ≡ away → Step K 𝓛 (‵ (frame_of E (set_at vs k gap)) ∷ Γ) G (‵ (frame_of E vs) ∷ ‵ (row R full_share zs (spot_of 𝓤 H E k).1 0) ∷ Γ) G
   stows t k zs lz ty i h = step (λ s. move t (1 ∷ []) $
-      use1 𝓛 (‵ (froom (spot_of 𝓤 H E k).0 (spot_of 𝓤 H E k).1 0)) (subst (λ (τ : Ty). ent 𝓤 (sem 𝓛 (row R full_share zs (spot_of 𝓤 H E k).1 0)) (H.room τ (spot_of 𝓤 H E k).1 0)) (sym ty) (array-out 𝓛 (spot_of 𝓤 H E k).1 zs lz)) $ lowers t k i h $ s)
+      use1 𝓛 (‵ (froom (spot_of 𝓤 H E k).0 (spot_of 𝓤 H E k).1 0)) (subst (λ (τ : Ty). ent 𝓤 (sem 𝓛 (row R full_share zs (spot_of 𝓤 H E k).1 0)) (H.room τ (spot_of 𝓤 H E k).1 0)) (sym ty) (array_out 𝓛 (spot_of 𝓤 H E k).1 zs lz)) $ lowers t k i h $ s)
 
 -- record i of the array, local k at the block l, is read by way of locals p, s and r into local d
 module _ {M : Type 1} {𝓤 : Ura M} {𝓛 : Logic 𝓤} {K : Type 0} {Γ : List (Item 𝓤)} {E : Env 𝓤 𝓛.H} {vs : List Cell} {C : Calls 𝓤 𝓛.H} {Λ : Loops 𝓤 𝓛.H} {q : Post 𝓤 𝓛.H} {rest : Body} {k p s r d c : ℕ} where
   open 𝓛 use {H}
 
-  pub reads-record : K → (zs : List Record) (i : ℕ) → i < length zs → Holds (ltb c (2 ^ 64)) → c + 0 ≡ spot record_size 0 i
+  pub reads_record : K → (zs : List Record) (i : ℕ) → i < length zs → Holds (ltb c (2 ^ 64)) → c + 0 ≡ spot record_size 0 i
       → (In E vs p × In E (with_at vs p (vptr (spot_of 𝓤 H E k).1 0)) s) × (In E (with_at (with_at vs p (vptr (spot_of 𝓤 H E k).1 0)) s (vptr (spot_of 𝓤 H E k).1 (c + 0))) r × In E (with_at (with_at (with_at vs p (vptr (spot_of 𝓤 H E k).1 0)) s (vptr (spot_of 𝓤 H E k).1 (c + 0))) r (val (record_at zs i))) d)
       → (Holds (has_ty (spot_of 𝓤 H E p).0 (vptr (spot_of 𝓤 H E k).1 0))) × (Holds (has_ty (spot_of 𝓤 H E s).0 (vptr (spot_of 𝓤 H E k).1 (c + 0)))) → (spot_of 𝓤 H E r).0 ≡ T'.mir → (spot_of 𝓤 H E d).0 ≡ T'.mir
       → held_in E (with_at vs p (vptr (spot_of 𝓤 H E k).1 0)) p ≡ some (vptr (spot_of 𝓤 H E k).1 0) → held_in E (with_at (with_at vs p (vptr (spot_of 𝓤 H E k).1 0)) s (vptr (spot_of 𝓤 H E k).1 (c + 0))) s ≡ some (vptr (spot_of 𝓤 H E k).1 (c + 0))
@@ -108,7 +108,7 @@ module _ {M : Type 1} {𝓤 : Ura M} {𝓛 : Logic 𝓤} {K : Type 0} {Γ : List
       → (Is R (record_at zs i) (vals (record_at zs i)) → Seq K 𝓛 (‵ (frame_of E (with_at (with_at (with_at (with_at vs p (vptr (spot_of 𝓤 H E k).1 0)) s (vptr (spot_of 𝓤 H E k).1 (c + 0))) r (val (record_at zs i))) d (val (record_at zs i)))) ∷ ‵ (row R full_share zs (spot_of 𝓤 H E k).1 0) ∷ Γ) (runs C Λ E rest q))
       → Seq K 𝓛 (‵ (frame_of E vs) ∷ ‵ (row R full_share zs (spot_of 𝓤 H E k).1 0) ∷ Γ)
       (runs C Λ E (seq (assign (place p []) (addr_of (place k []))) (seq (assign (place s []) (op2 offset (copy (place p [])) (int w64 c))) (seq (assign (place r []) (rv_opd (copy (place s (deref T'.mir ∷ []))))) (seq (assign (place d []) (rv_opd (copy (place r [])))) rest)))) q)
-  reads-record t zs i l small at_c ins fits ty-r ty-d at_p at-s at-r cont =
+  reads_record t zs i l small at_c ins fits ty-r ty-d at_p at-s at-r cont =
       sets t (addr t (from t (stop t))) ins.0.0 (fits.0, tt) $ sets t (bin t (val_of t 0 refl at_p) (lit t small) tt) ins.0.1 (fits.1, tt) $ move t (1 ∷ []) $ row_out t full_share zs i (spot_of 𝓤 H E k).1 0 l (λ g. move t (3 ∷ []) $
       sets t (of_opd t (load t (from t (hop t (look_in t 0 (local t s at-s)) (stop t))) (look_raw t 1 (ap (λ (x : ℕ). ‵ (cell_at full_share R.mir (vals (record_at zs i)) (spot_of 𝓤 H E k).1 x)) (sym at_c))))) ins.1.0 (subst (λ (τ : Ty). Holds (has_ty τ (val (record_at zs i))) × WT (val (record_at zs i))) (sym ty-r) (typed 𝓛 (record_at zs i) g)) $
       sets t (of_opd t (val_of t 0 refl at-r)) ins.1.1 (subst (λ (τ : Ty). Holds (has_ty τ (val (record_at zs i))) × WT (val (record_at zs i))) (sym ty-d) (typed 𝓛 (record_at zs i) g)) $

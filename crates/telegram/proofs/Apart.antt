@@ -12,7 +12,7 @@ use borrow.Author.Tests.{leb-true, eqb-true, eqb-false}
 use Rattle.checkword.specs.Bytes.{Bytes, number, Within}
 use Rattle.checkword.specs.Word.{word}
 use Rattle.checkword.proofs.Bytes.{bytes_append, bytes_take}
-use Rattle.checkword.proofs.Facts.{burst-of}
+use Rattle.checkword.proofs.Facts.{burst_of}
 use Rattle.ground.specs.Choice.{pick}
 use Rattle.telegram.specs.Levels.{level_of, width, generator}
 use Rattle.telegram.specs.Commands.{kind_of_command, known}
@@ -178,7 +178,7 @@ told e f m n places t bytes few other within p q =
     let l : ℕ = e.level in
     let u : ℕ = used_for m t in
     let v : ℕ = used_for n t in
-    burst-of (width l) (generator l) (generator_good l) places few (whole e l u t) (whole f l v t) (whole_bytes e l u t bytes) (whole_bytes f l v t bytes)
+    burst_of (width l) (generator l) (generator_good l) places few (whole e l u t) (whole f l v t) (whole_bytes e l u t bytes) (whole_bytes f l v t bytes)
     (within_append (take (covered l t) t) within) (λ same. other (append_cancel_right _ _ (take (covered l t) t) same))
     (sym (came e l u t refl (passed e m t p).agrees) ∙ came f l v t (sym (level_apart e f m n t p q)) (passed f n t q).agrees)
 

@@ -111,8 +111,8 @@ module _ (e : End) (n low : ℕ) (vs net : List ℕ) where
 
   module _ (ranged : in_range e ≡ true) (small : low < 64) (there : known (kind_of low) ≡ true) (fit : Fit (layout (kind_of low)) vs) (bytes : Bytes net)
       (room : length net ≤ most (kind_of low) e.level) (good : good_fields (kind_of low) vs ≡ true) where
-    kind-back : kind_of_command (command_of t) ≡ kind_of low
-    kind-back =
+    kind_back : kind_of_command (command_of t) ≡ kind_of low
+    kind_back =
         let e' : (top_bits e.level * 64 + low) % 64 ≡ low = omega arith in
         ap kind_of_command command ∙ ap kind_of e'
 
@@ -124,9 +124,9 @@ module _ (e : End) (n low : ℕ) (vs net : List ℕ) where
     size : length t ≡ header (kind_of low) + length net + word_length e.level
     size = sealed_length e n bs ∙ ap (λ (m : ℕ). m + word_length e.level) body_is
 
-    values-back : values (kind_of low) t ≡ vs
+    values_back : values (kind_of low) t ≡ vs
     unfolding sealed body
-    values-back =
+    values_back =
         ap {B = List ℕ} (λ (x : List ℕ). values (kind_of low) (n % 256 ∷ (top_bits e.level * 64 + low) ∷ x))
         (append_assoc (field_bytes (layout (kind_of low)) vs) net (bytes_of (word_length e.level) worked))
         ∙ fields_back (layout (kind_of low)) vs (n % 256 ∷ (top_bits e.level * 64 + low) ∷ []) (net ++ bytes_of (word_length e.level) worked) 2 refl fit
@@ -138,8 +138,8 @@ module _ (e : End) (n low : ℕ) (vs net : List ℕ) where
       (omega (arith, top_small e.level), bytes_append (field_bytes (layout (kind_of low)) vs) net (fields_bytes (layout (kind_of low)) vs) bytes),
     )
 
-    covered-is : length t - word_length e.level ≡ length bs
-    covered-is = omega (arith, sealed_length e n bs)
+    covered_is : length t - word_length e.level ≡ length bs
+    covered_is = omega (arith, sealed_length e n bs)
 
     -- the check word that stands at the end is the one of the mirrored end
     came : number (drop (length bs) t) ≡ worked
@@ -159,9 +159,9 @@ module _ (e : End) (n low : ℕ) (vs net : List ℕ) where
     unfolding word_agrees
     agrees =
         eq-eqb (number (drop (length t - word_length e.level) t)) (check_word e.level (receiving (mirrored e) n (length t)) (take (length t - word_length e.level) t))
-        (ap (λ (m : ℕ). number (drop m t)) covered-is ∙ came
+        (ap (λ (m : ℕ). number (drop m t)) covered_is ∙ came
         ∙ sym
-        (ap₂ (λ (m c : ℕ). check_word e.level (receiving (mirrored e) n c) (take m t)) covered-is (sealed_length e n bs)
+        (ap₂ (λ (m c : ℕ). check_word e.level (receiving (mirrored e) n c) (take m t)) covered_is (sealed_length e n bs)
         ∙ ap {B = ℕ} (check_word e.level (sending e n (length bs + word_length e.level))) front))
 
     on_bus_holds : on_bus (length t) ≡ true
@@ -169,25 +169,25 @@ module _ (e : End) (n low : ℕ) (vs net : List ℕ) where
         both_are (leb 6 (length t)) (leb (length t) 244) (le-leb 6 (length t) (omega (arith, size, header_some (kind_of low), word_some e.level)))
         (le-leb (length t) 244 (omega (arith, size, most_small (kind_of low) e.level)))
 
-    level-told : level_of (command_of t) ≡ Sl e.level
-    level-told = ap level_of command ∙ level_back e.level low (level_there e ranged) small
+    level_told : level_of (command_of t) ≡ Sl e.level
+    level_told = ap level_of command ∙ level_back e.level low (level_there e ranged) small
 
-    level-clause : same_level (level_of (command_of t)) e.level ≡ true
-    level-clause = ap {B = Bool} (λ (x : Level). same_level x e.level) level-told ∙ eq-eqb e.level e.level refl
+    level_clause : same_level (level_of (command_of t)) e.level ≡ true
+    level_clause = ap {B = Bool} (λ (x : Level). same_level x e.level) level_told ∙ eq-eqb e.level e.level refl
 
-    suits-telegram : suits (kind_of low) e.level (length t) ≡ true
-    suits-telegram =
+    suits_telegram : suits (kind_of low) e.level (length t) ≡ true
+    suits_telegram =
         both_are (leb (header (kind_of low) + word_length e.level) (length t)) (leb (length t) (header (kind_of low) + most (kind_of low) e.level + word_length e.level))
         (le-leb (header (kind_of low) + word_length e.level) (length t) (omega (arith, size)))
         (le-leb (length t) (header (kind_of low) + most (kind_of low) e.level + word_length e.level) (omega (arith, size)))
 
-    net-part : net_part t ≡ record { start = header (kind_of low); count = length net }
+    net_part_holds : net_part t ≡ record { start = header (kind_of low); count = length net }
     unfolding net_part
-    net-part =
-        ap₂ {C = Part} (λ (x : Level) (y : Kind). part_of x y (length t)) level-told kind-back
+    net_part_holds =
+        ap₂ {C = Part} (λ (x : Level) (y : Kind). part_of x y (length t)) level_told kind_back
         ∙ step (all (is_level e.level ∷ known (kind_of low) ∷ suits (kind_of low) e.level (length t) ∷ [])) _ _ _
         (both_are (is_level e.level) (pick (known (kind_of low)) (suits (kind_of low) e.level (length t)) false) (level_there e ranged)
-        (both_are (known (kind_of low)) (suits (kind_of low) e.level (length t)) there suits-telegram))
+        (both_are (known (kind_of low)) (suits (kind_of low) e.level (length t)) there suits_telegram))
         (ap {B = Part} (λ (m : ℕ). record { start = header (kind_of low); count = m }) left)
       where
         left : length t - header (kind_of low) - word_length e.level ≡ length net
@@ -197,9 +197,9 @@ module _ (e : End) (n low : ℕ) (vs net : List ℕ) where
     head : List ℕ
     head = n % 256 ∷ (top_bits e.level * 64 + low) ∷ field_bytes (layout (kind_of low)) vs
 
-    head-length : length head ≡ header (kind_of low)
+    head_length : length head ≡ header (kind_of low)
     unfolding head
-    head-length = omega (arith, fields_length (layout (kind_of low)) vs fit)
+    head_length = omega (arith, fields_length (layout (kind_of low)) vs fit)
 
     split : t ≡ head ++ (net ++ bytes_of (word_length e.level) worked)
     unfolding sealed body head
@@ -207,24 +207,24 @@ module _ (e : End) (n low : ℕ) (vs net : List ℕ) where
         ap {B = List ℕ} (λ (x : List ℕ). n % 256 ∷ (top_bits e.level * 64 + low) ∷ x)
         (append_assoc (field_bytes (layout (kind_of low)) vs) net (bytes_of (word_length e.level) worked))
 
-    net-back : net_data t ≡ net
+    net_back : net_data t ≡ net
     unfolding net_data
-    net-back =
-        ap {B = List ℕ} (λ (p : Part). take p.count (drop p.start t)) net-part
+    net_back =
+        ap {B = List ℕ} (λ (p : Part). take p.count (drop p.start t)) net_part_holds
         ∙ ap {B = List ℕ} (λ (x : List ℕ). take (length net) (drop (header (kind_of low)) x)) split
-        ∙ ap {B = List ℕ} (take (length net)) (drop_at head (net ++ bytes_of (word_length e.level) worked) (header (kind_of low)) head-length)
+        ∙ ap {B = List ℕ} (take (length net)) (drop_at head (net ++ bytes_of (word_length e.level) worked) (header (kind_of low)) head_length)
         ∙ take_at net (bytes_of (word_length e.level) worked) (length net) refl
 
     module _ (expected : ℕ) (used : number_used (kind_of low) expected vs ≡ n) where
-      used-back : used_for expected t ≡ n
-      used-back =
-          ap {B = ℕ} (λ (x : Kind). number_used x expected (values x t)) kind-back ∙ ap {B = ℕ} (number_used (kind_of low) expected) values-back ∙ used
+      used_back : used_for expected t ≡ n
+      used_back =
+          ap {B = ℕ} (λ (x : Kind). number_used x expected (values x t)) kind_back ∙ ap {B = ℕ} (number_used (kind_of low) expected) values_back ∙ used
 
-      number-clause : eqb (get_or t 0 0) (used_for expected t % 256) ≡ true
-      number-clause = eq-eqb (get_or t 0 0) (used_for expected t % 256) (first ∙ sym (ap (λ (m : ℕ). m % 256) used-back))
+      number_clause : eqb (get_or t 0 0) (used_for expected t % 256) ≡ true
+      number_clause = eq-eqb (get_or t 0 0) (used_for expected t % 256) (first ∙ sym (ap (λ (m : ℕ). m % 256) used_back))
 
-      fields-clause : good_fields (kind_of_command (command_of t)) (values (kind_of_command (command_of t)) t) ≡ true
-      fields-clause = ap {B = Bool} (λ (x : Kind). good_fields x (values x t)) kind-back ∙ ap {B = Bool} (good_fields (kind_of low)) values-back ∙ good
+      fields_clause : good_fields (kind_of_command (command_of t)) (values (kind_of_command (command_of t)) t) ≡ true
+      fields_clause = ap {B = Bool} (λ (x : Kind). good_fields x (values x t)) kind_back ∙ ap {B = Bool} (good_fields (kind_of low)) values_back ∙ good
 
       pub taken : Taken e expected t (kind_of low) vs net
       unfolding check_of
@@ -233,17 +233,17 @@ module _ (e : End) (n low : ℕ) (vs net : List ℕ) where
             passes =
                 step (in_range (mirrored e)) _ _ Passes (mirrored_in_range e ranged)
                 (step (on_bus (length t)) _ _ Passes on_bus_holds
-                (step (same_level (level_of (command_of t)) e.level) _ _ Passes level-clause
-                (step (known (kind_of_command (command_of t))) _ _ Passes (ap {B = Bool} known kind-back ∙ there)
+                (step (same_level (level_of (command_of t)) e.level) _ _ Passes level_clause
+                (step (known (kind_of_command (command_of t))) _ _ Passes (ap {B = Bool} known kind_back ∙ there)
                 (step (suits (kind_of_command (command_of t)) e.level (length t)) _ _ Passes
-                (ap {B = Bool} (λ (x : Kind). suits x e.level (length t)) kind-back ∙ suits-telegram)
-                (step (eqb (get_or t 0 0) (used_for expected t % 256)) _ _ Passes number-clause
-                (step (good_fields (kind_of_command (command_of t)) (values (kind_of_command (command_of t)) t)) _ _ Passes fields-clause
+                (ap {B = Bool} (λ (x : Kind). suits x e.level (length t)) kind_back ∙ suits_telegram)
+                (step (eqb (get_or t 0 0) (used_for expected t % 256)) _ _ Passes number_clause
+                (step (good_fields (kind_of_command (command_of t)) (values (kind_of_command (command_of t)) t)) _ _ Passes fields_clause
                 (step (word_agrees (mirrored e) (used_for expected t) t) _ _ Passes
-                (ap {B = Bool} (λ (m : ℕ). word_agrees (mirrored e) m t) used-back ∙ agrees) refl)))))));
-            kind = kind-back;
-            fields = values-back;
-            net_data_holds = net-back;
+                (ap {B = Bool} (λ (m : ℕ). word_agrees (mirrored e) m t) used_back ∙ agrees) refl)))))));
+            kind = kind_back;
+            fields = values_back;
+            net_data_holds = net_back;
           }
 
 -- The seven writers.

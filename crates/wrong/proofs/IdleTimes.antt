@@ -128,9 +128,9 @@ settled x time number is allowed done = record { so = so (good_idle x) is; away 
 
 -- An opening, and a confirm, that a link makes as ours makes it when x is named.
 module _ (link : Link) (x l : ℕ) (k : Level l) (i : IdleTime) (time : ℕ) (bytes : List ℕ) (d : Declares link i time bytes) where
-  asked-as : link (Open 0 0 i []) head (table l) 0 room ≡ called (Open 0 0 (naming x) []) head (table l) 0 room → Settled x time
+  asked_as : link (Open 0 0 i []) head (table l) 0 room ≡ called (Open 0 0 (naming x) []) head (table l) 0 room → Settled x time
   unfolding fresh_of
-  asked-as e =
+  asked_as e =
       let number : (link (Open 0 0 i []) head (table l) 0 room).outcome.answer.number ≡ (called (Open 0 0 (naming x) []) head (table l) 0 room).outcome.answer.number =
       ap (λ (y : Left). y.outcome.answer.number) e in
       settled x time (called (Open 0 0 (naming x) []) head (table l) 0 room).outcome.answer.number
@@ -140,9 +140,9 @@ module _ (link : Link) (x l : ℕ) (k : Level l) (i : IdleTime) (time : ℕ) (by
       sym ((demand_2_idle_times.named x).opening 0 0 [] head (table l) 0 room done).declared ∙ sym (ap (λ (y : Left). (record_at y.table 0).declared) e)
       ∙ (d.opening 0 0 [] head (table l) 0 room (number ∙ done)).declared)
 
-  confirmed-as : takes link (comes l i) ≡ takes called (comes l (naming x)) → Settled x time
+  confirmed_as : takes link (comes l i) ≡ takes called (comes l (naming x)) → Settled x time
   unfolding fresh_of pick
-  confirmed-as e =
+  confirmed_as e =
       let number : (takes link (comes l i)).outcome.answer.number ≡ (takes called (comes l (naming x))).outcome.answer.number = ap (λ (y : Left). y.outcome.answer.number) e in
       settled x time (takes called (comes l (naming x))).outcome.answer.number
       ((idle_time_answers x _ refl).by_received head (table l) 0 (comes l i).route 0 (asking l) [] room k.good (lit≤ tt) (lit≤ tt)
@@ -166,11 +166,11 @@ pub no_other_rule : NoOtherRule
 unfolding fresh_of pick
 no_other_rule asks confirms d = (
   as_the_papers_say asks
-      (λ l level beside. asked-as (declaring asks confirms) (asks l (none_named beside)) l (levels l level) (none_named beside) 1000 _ (d.none beside) refl)
-      (λ l level time. asked-as (declaring asks confirms) (asks l (naming time)) l (levels l level) (naming time) time _ (d.named time) refl),
+      (λ l level beside. asked_as (declaring asks confirms) (asks l (none_named beside)) l (levels l level) (none_named beside) 1000 _ (d.none beside) refl)
+      (λ l level time. asked_as (declaring asks confirms) (asks l (naming time)) l (levels l level) (naming time) time _ (d.named time) refl),
   as_the_papers_say confirms
-      (λ l level beside. confirmed-as (declaring asks confirms) (confirms l (none_named beside)) l (levels l level) (none_named beside) 1000 _ (d.none beside) refl)
-      (λ l level time. confirmed-as (declaring asks confirms) (confirms l (naming time)) l (levels l level) (naming time) time _ (d.named time) refl),
+      (λ l level beside. confirmed_as (declaring asks confirms) (confirms l (none_named beside)) l (levels l level) (none_named beside) 1000 _ (d.none beside) refl)
+      (λ l level time. confirmed_as (declaring asks confirms) (confirms l (naming time)) l (levels l level) (naming time) time _ (d.named time) refl),
 )
 
 -- The request of node 9 carries 0.
@@ -178,7 +178,7 @@ partners_time_is_shut_out : PartnersTimeIsShutOut
 unfolding fresh_of pick
 partners_time_is_shut_out d =
     let zero_is : idle_time_of (asking 4) ≡ 0 = ap (λ (vs : List ℕ). get_or vs 1 0) level_4.taken.fields in
-    let same : idle_time_of (asking 4) ≡ 1000 = (confirmed-as partners_time (idle_time_of (asking 4)) 4 level_4 (none_named 0) 1000 _ (d.none 0) refl).so (lit≤ tt) refl in
+    let same : idle_time_of (asking 4) ≡ 1000 = (confirmed_as partners_time (idle_time_of (asking 4)) 4 level_4 (none_named 0) 1000 _ (d.none 0) refl).so (lit≤ tt) refl in
     omega arith
 
 pub wrong_idle_times_are_shut_out : WrongIdleTimesAreShutOut

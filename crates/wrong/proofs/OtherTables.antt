@@ -291,10 +291,10 @@ disconnected : (p : ℕ) → 1 ≤ p → p ≤ 6 → Seen Discon-rcv p
 unfolding writes_disconnect refusal disconnect_allowed good_type listed_reason in_range pick
 disconnected p l h =
     let taken = disconnect_taken there 0 1 0 [] room (telegrams.disconnect there 0 1 0 []) tt refl in
-    seen_of kind.Disconnect p (telegrams.disconnect there 0 1 0 []) _ _ l h taken (λ c. not-final p c (type_of (telegrams.disconnect there 0 1 0 [])) l h (ap (λ (vs : List ℕ). get_or vs 0 0) taken.fields))
+    seen_of kind.Disconnect p (telegrams.disconnect there 0 1 0 []) _ _ l h taken (λ c. not_final p c (type_of (telegrams.disconnect there 0 1 0 [])) l h (ap (λ (vs : List ℕ). get_or vs 0 0) taken.fields))
   where
-    not-final : (p : ℕ) (c : Cell) (type : ℕ) → 1 ≤ p → p ≤ 6 → type ≡ 1 → pick (all (leb 2 p ∷ leb p 5 ∷ eqb type 0 ∷ [])) (f00 ⇒ defect) c ≡ c
-    not-final p c type l h e = rw e (columns (λ (q : ℕ). pick (all (leb 2 q ∷ leb q 5 ∷ false ∷ [])) (f00 ⇒ defect) c ≡ c) p l h refl refl refl refl refl refl)
+    not_final : (p : ℕ) (c : Cell) (type : ℕ) → 1 ≤ p → p ≤ 6 → type ≡ 1 → pick (all (leb 2 p ∷ leb p 5 ∷ eqb type 0 ∷ [])) (f00 ⇒ defect) c ≡ c
+    not_final p c type l h e = rw e (columns (λ (q : ℕ). pick (all (leb 2 q ∷ leb q 5 ∷ false ∷ [])) (f00 ⇒ defect) c ≡ c) p l h refl refl refl refl refl refl)
 
 idled : (p : ℕ) → 1 ≤ p → p ≤ 6 → Seen Idle-rcv p
 unfolding writes_idle refusal in_range pick

@@ -411,12 +411,12 @@ net_data_one_byte_further_are_shut_out d =
 -- A request of node 9 on a closed record.
 pub open_at_the_confirm_is_shut_out : OpenAtTheConfirmIsShutOut
 unfolding called asked settled accepted bounds_accepted record_accepted record_in_range end_of in_range is_phase is_closed good_idle first_refusal fresh_of become pick at_rest received_refusal declared_by connect_allowed received_of judged passed run_out expected_now check_of level_of kind_of is_data good_dual_bus word_agrees check_word implicit width word_length generator generator32 shift feed good_version writes_confirm writing_step refusal
-open_at_the_confirm_is_shut_out d = by (d.one_end.opens_only_by_an_answer (from 9 asked-by-9) head (fresh_of 9 3 3 2 ∷ []) 0 room refl)
+open_at_the_confirm_is_shut_out d = by (d.one_end.opens_only_by_an_answer (from 9 asked_by_9) head (fresh_of 9 3 3 2 ∷ []) 0 room refl)
   where
-    asked-by-9 : List ℕ
-    asked-by-9 = 0x00 ∷ 0x00 ∷ 0x00 ∷ 0x00 ∷ 0x00 ∷ 0x00 ∷ 0x00 ∷ 0x00 ∷ 0x03 ∷ 0x00 ∷ 0x00 ∷ 0x00 ∷ 0x82 ∷ 0xCB ∷ 0x64 ∷ 0x59 ∷ []
+    asked_by_9 : List ℕ
+    asked_by_9 = 0x00 ∷ 0x00 ∷ 0x00 ∷ 0x00 ∷ 0x00 ∷ 0x00 ∷ 0x00 ∷ 0x00 ∷ 0x03 ∷ 0x00 ∷ 0x00 ∷ 0x00 ∷ 0x82 ∷ 0xCB ∷ 0x64 ∷ 0x59 ∷ []
 
-    by : ByAnAnswer (from 9 asked-by-9) head (fresh_of 9 3 3 2 ∷ []) 0 → ⊥
+    by : ByAnAnswer (from 9 asked_by_9) head (fresh_of 9 3 3 2 ∷ []) 0 → ⊥
     by (inl a) = let z : ◌≡◌ {A = ℕ} 1 3 = a.phase_is in omega arith
     by (inr a) = let z : ◌≡◌ {A = ℕ} 1 4 = a.phase_is in omega arith
 

@@ -7,8 +7,8 @@ use denote.Struct.Laws as LL
 use Rattle.node.specs.Calls.Call.{Open}
 use Rattle.node.specs.Plain.{plain as plainly}
 use Rattle.node.proofs.Walking.{refl, ap, List, [], ◌∷◌, Ura, w32, w64, SProp, emp, id⊢, Memory, Routine, Calls, Loops, Fun, fact_i, tables, tables_of, FmC, fm_of, ◌$◌, !, by, move, now, cited, Triple, Args, ‵, use1, ftrue, owns, types_at, lasts}
-use Rattle.node.proofs.Walking.{vals, reborrows, Param, number, table, head, idleTime, bytes, buffer, spells, tellss, lawfuls, Met, bound, Walk, enters_by, ends, calls-said, Plain, returns_plain, Said, values, owns_each, lasts_each, exchanged, lands-struct, made_struct, NameIdle, names-idle}
-use Rattle.node.proofs.Known.{#idle, idle-known, plain_known}
+use Rattle.node.proofs.Walking.{vals, reborrows, Param, number, table, head, idleTime, bytes, buffer, spells, tellss, lawfuls, Met, bound, Walk, enters_by, ends, calls-said, Plain, returns_plain, Said, values, owns_each, lasts_each, exchanged, lands_struct, made_struct, NameIdle, names_idle}
+use Rattle.node.proofs.Known.{#idle, idle_known, plain_known}
 use Rattle.node.proofs.plain_outcome.Symbol.{name as #plain}
 use Rattle.node.specs.contracts.open as g
 use Rattle.node.proofs.open.Symbol as call-def
@@ -33,7 +33,7 @@ module _ {M : Type 1} {𝓤 : Ura M} (𝓛 : Logic 𝓤) (at_mem : Memory → SP
   walk κs qs bounds a z are l₀ l₁ l₂ l₃ l₄ l₅ l₆ l₇ l₈ l₉ l₁₀ l₁₁ l₁₂ l₁₃ l₁₄ l₁₅ =
       let (t, (h, (time, (place, (random, (flag, (idle, (n, (out, _))))))))) = a in let y = bound 𝓛 f.ended (f.clauses 𝓛 at_mem run) (spells params) κs qs bounds a z in
       let i = idle_time_by flag idle in let a' : Args g.signature κs = (t, (h, (time, (place, (random, (i, (n, (out, tt)))))))) in let y' = bound 𝓛 g.ended (g.clauses 𝓛 at_mem run) (spells called) κs qs bounds a' z in
-      names-idle ! fm at_mem run known-idle flag idle are.1.1.1.1.1.0.1 are.1.1.1.1.1.1.0.1 (vals ! 1 refl refl) (λ wᵢ isᵢ. lands-struct ! ID.the_type ID'.the_laws i isᵢ tt refl $
+      names_idle ! fm at_mem run known-idle flag idle are.1.1.1.1.1.0.1 are.1.1.1.1.1.1.0.1 (vals ! 1 refl refl) (λ wᵢ isᵢ. lands_struct ! ID.the_type ID'.the_laws i isᵢ tt refl $
       reborrows ! refl refl refl refl (tt, tt) (tt, tt) (tt, (tt, (record { fits = are.0.0.1.0 }, tt))) $ reborrows ! refl refl refl refl (tt, tt) (tt, tt) (tt, (tt, (record { fits = are.1.1.1.1.1.1.1.1.0.0.1.0 }, tt))) $ move ! (2 ∷ []) $
       use1 𝓛 (‵ (owns (types_at (g.signature).params κs) a' y'.0.4)) (exchanged 𝓛 5 2 ((ID.the_row).own_val i (LL.vals ID.the_type ID'.the_laws i)) (owns_each (types_at (f.signature).params κs) a (values 𝓛 f.ended (f.clauses 𝓛 at_mem run) (spells params) κs a)) (made_struct 𝓛 ID.the_type ID'.the_laws ID'.the_plain i isᵢ)) $ move ! (2 ∷ 0 ∷ []) $
       calls-said ! fm g.ended (g.clauses 𝓛 at_mem run) known-call y' (id⊢ 𝓤 (emp 𝓤)) (λ u ws. Said (Open place random i (now n)) h (now t) time (now out) u ws.0 ws.1.1.1.1.1.1.1.0) (λ u ws. id⊢ 𝓤 _) (vals ! 1 refl refl) (λ w u ws is e. move ! (2 ∷ []) $
@@ -45,5 +45,5 @@ unfolding code.routine tables_of
 uj-open-spec 𝓤 𝓛 𝓜 𝓡 =
     enters_by 𝓛 𝓜 𝓡 code.env #f code.function (code.unfolded 𝓤 𝓛.H 𝓜 𝓡) f.ended (f.clauses 𝓛 𝓜.mem 𝓡.run) (spells params) (tellss params) (lawfuls 𝓛 params) (λ κs. refl)
     (walk 𝓛 𝓜.mem 𝓡.run (tables 𝓤 𝓛.H 𝓜 𝓡 code.env).C (tables 𝓤 𝓛.H 𝓜 𝓡 code.env).Λ (fm_of 𝓤 𝓛.H 𝓛.laws (tables_of 𝓤 𝓛.H 𝓜 (tables 𝓤 𝓛.H 𝓜 𝓡 code.env)))
-    (idle-known 𝓛 𝓜 𝓡 code.env code.calls-link::idle-time-by) (plain_known 𝓛 𝓜 𝓡 code.env code.calls-node::plain-outcome)
+    (idle_known 𝓛 𝓜 𝓡 code.env code.calls-link::idle-time-by) (plain_known 𝓛 𝓜 𝓡 code.env code.calls-node::plain-outcome)
     (cited 𝓤 𝓛.H (Met 𝓛 g.ended (g.clauses 𝓛 𝓜.mem 𝓡.run)) 𝓜 𝓡 code.env #call call-def.routine code.calls-node::open (call-thm.met 𝓤 𝓛 𝓜 𝓡)))

@@ -1,7 +1,7 @@
 -- `clock::circle::size` meets its contract: by the sign; the lowest number has no opposite in 64 bits, and needs none.
 -- Assumes nothing.
 use Rattle.std.proofs.Common.{arith, rules}
-use Rattle.clock.proofs.Whole.{held, held_below, held-above, below_opposite, below_machine, below_size}
+use Rattle.clock.proofs.Whole.{held, held_below, held_above, below_opposite, below_machine, below_size}
 use Rattle.clock.proofs.circle.size.Statement.{statement}
 use Rattle.clock.proofs.circle.size.Tie as tie
 
@@ -18,7 +18,7 @@ returns : tie.Need-returns
 returns c = rw (below_machine c.before.args.x c.before.ranges.x c.if1.true) (below_size c.before.args.x (held_below c.before.args.x c.before.ranges.x c.if1.true))
 
 cast-result-2 : tie.Need-overflow-cast-result-2
-cast-result-2 c = rw (held c.before.args.x c.before.ranges.x, held-above c.before.args.x c.before.ranges.x c.if1.false) (tt, omega (arith, c.before.ranges.x.sfits))
+cast-result-2 c = rw (held c.before.args.x c.before.ranges.x, held_above c.before.args.x c.before.ranges.x c.if1.false) (tt, omega (arith, c.before.ranges.x.sfits))
 
 returns-2 : tie.Need-returns-2
 returns-2 c = search rules

@@ -1,7 +1,7 @@
 -- `clock::means::mean` meets its contract: the three calls in a row.
 -- Assumes nothing.
 use Rattle.std.proofs.Common.{rules}
-use Rattle.clock.proofs.Averages.{mean-is}
+use Rattle.clock.proofs.Averages.{mean_is}
 use Rattle.clock.proofs.means.mean.Statement.{statement}
 use Rattle.clock.proofs.means.mean.Tie as tie
 
@@ -21,7 +21,7 @@ moved-requires : tie.Need-moved-requires
 moved-requires c κs = search rules
 
 returns : tie.Need-returns
-returns c = mean-is c.before.before.before.before.before.args.t1 c.before.before.before.difference.result c.moved.result c.before.before.spread.result c.before.sixteenth.result (search rules) c.before.before.before.difference.ensures c.before.before.spread.ensures c.before.sixteenth.ensures c.moved.ensures
+returns c = mean_is c.before.before.before.before.before.args.t1 c.before.before.before.difference.result c.moved.result c.before.before.spread.result c.before.sixteenth.result (search rules) c.before.before.before.difference.ensures c.before.before.spread.ensures c.before.sixteenth.ensures c.moved.ensures
 
 pub mean-spec : {M : Type 1} → statement M
 mean-spec =

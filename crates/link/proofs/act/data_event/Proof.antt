@@ -11,7 +11,7 @@ command-low-requires : tie.Need-command-low-requires
 command-low-requires c κs = search rules
 
 returns : tie.Need-returns
-returns c = rw (c.command-low.ensures, c.before.net-part.ensures)
+returns c = rw (c.command-low.ensures, c.before.net_part_holds.ensures)
 
 pub data-event-spec : {M : Type 1} → statement M
 data-event-spec = tie.close (tie.spec net-part-requires command-low-requires returns)

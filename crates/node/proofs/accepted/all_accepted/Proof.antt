@@ -54,8 +54,8 @@ use Rattle.node.specs.declared.Head.{Head}
 use Rattle.node.specs.Accepted.{nowhere, record_at, record_accepted, all_accepted}
 use Rattle.node.specs.contracts.Head as K
 use Rattle.node.proofs.Head.TheLaws as K'
-use Rattle.node.proofs.Rows.{R, vals, makes, typed, place_of, byte_fits, looks-rows, row_out}
-use Rattle.node.proofs.Searches.{Good, good-all, good-not, good-later}
+use Rattle.node.proofs.Rows.{R, vals, makes, typed, place_of, byte_fits, looks_rows, row_out}
+use Rattle.node.proofs.Searches.{Good, good_all, good_not, good_later}
 use Rattle.ground.proofs.Walk.{while-lt, breaks, env_of, slots, clears}
 use Rattle.node.specs.contracts.accepted.record_accepted as g
 use Rattle.node.proofs.accepted.record_accepted.Symbol as g-def
@@ -172,12 +172,12 @@ module _ {M : Type 1} {𝓤 : Ura M} (𝓛 : Logic 𝓤) (at_mem : Memory → SP
         assigns ! (un ! (load ! (from ! (stop !)) (look ! 12 refl)) tt) (from ! (stop !)) (store ! 8 refl (tt, tt)) $
         breaks ! (load ! (from ! (stop !)) (look ! 8 refl))
         -- it is not accepted
-        (λ m. forget ! 12 refl $ forget ! 10 refl $ forget ! 8 refl $ forget ! 6 refl $ forget ! 4 refl $ by ! (ends i (good-not h ys i l m passed)))
+        (λ m. forget ! 12 refl $ forget ! 10 refl $ forget ! 8 refl $ forget ! 6 refl $ forget ! 4 refl $ by ! (ends i (good_not h ys i l m passed)))
         -- the next one
         (λ m. assigns_last ! (bin ! (load ! (from ! (stop !)) (look ! 14 refl)) (lit ! tt) (record { fits = next_fits i l })) (from ! (stop !)) (store ! 14 refl (tt, record { fits = next_fits i l })) $
-        forget ! 12 refl $ forget ! 10 refl $ forget ! 8 refl $ forget ! 6 refl $ forget ! 4 refl $ again ! Nearer (λ (v : At). Inv v.0) (i, (inside, passed)) (i + 1, (next-in i l, good-later h ys i l m passed)) (nearer i l))))))))
+        forget ! 12 refl $ forget ! 10 refl $ forget ! 8 refl $ forget ! 6 refl $ forget ! 4 refl $ again ! Nearer (λ (v : At). Inv v.0) (i, (inside, passed)) (i + 1, (next-in i l, good_later h ys i l m passed)) (nearer i l))))))))
         -- none is left
-        (λ far. forget ! 10 refl $ forget ! 8 refl $ by ! (ends i (good-all h ys i far passed)))
+        (λ far. forget ! 10 refl $ forget ! 8 refl $ by ! (ends i (good_all h ys i far passed)))
       where
         next_fits : (i : ℕ) → i < length ys → i + 1 < 2 ^ 64
         next_fits i h = let g : length ys < 2 ^ 64 = room.0 in omega arith
@@ -195,7 +195,7 @@ module _ {M : Type 1} {𝓤 : Ura M} (𝓛 : Logic 𝓤) (at_mem : Memory → SP
       pass1 ! (init ! 16 refl (tt, (tt, (record { fits = room.0 }, tt)))) $ pass1 ! (init ! 14 refl ((LL.lawful K.the_type K'.the_laws 𝓛).typed h _ gh).0) $ pass0 ! $
       assigns ! (of_opd ! (lit ! tt)) (from ! (stop !)) (init ! 12 refl (tt, record { fits = lit< tt })) $
       move ! (21 ∷ []) $ fsplit ! $ fsplit ! $ drop ! $ fsplit ! $ drop ! $ move ! (22 ∷ []) $ split ! $ move ! (2 ∷ 0 ∷ []) $
-      looks-rows ! tt ys b o (λ q'. keep ! (0 ∷ 1 ∷ 5 ∷ 6 ∷ 7 ∷ 8 ∷ 9 ∷ 10 ∷ 11 ∷ 12 ∷ 13 ∷ 14 ∷ 15 ∷ 16 ∷ 17 ∷ 18 ∷ 19 ∷ 20 ∷ 21 ∷ 22 ∷ 23 ∷ 24 ∷ []) $
+      looks_rows ! tt ys b o (λ q'. keep ! (0 ∷ 1 ∷ 5 ∷ 6 ∷ 7 ∷ 8 ∷ 9 ∷ 10 ∷ 11 ∷ 12 ∷ 13 ∷ 14 ∷ 15 ∷ 16 ∷ 17 ∷ 18 ∷ 19 ∷ 20 ∷ 21 ∷ 22 ∷ 23 ∷ 24 ∷ []) $
       first ! $ blocks ! $ loops ! 𝓣 Nearer Nearer-wf (λ (v : At). Inv 𝓣 known room gh q' l₀ l₁ l₂ l₃ l₄ l₅ l₆ l₇ l₈ l₉ v.0) (turns 𝓣 known room gh q' l₀ l₁ l₂ l₃ l₄ l₅ l₆ l₇ l₈ l₉) (0, (omega arith, refl)))))))))))))
 
 module _ {M : Type 1} {𝓤 : Ura M} (𝓛 : Logic 𝓤) (at_mem : Memory → SProp 𝓤) (run : Routine → Fun 𝓤) where

@@ -46,8 +46,8 @@ use denote.Triple.Walked.{says, Stays, stay_dropped, walk_of, AllGo, Goes-droppe
 use denote.Exit.{yes}
 use Rattle.link.specs.declared.Record.{Record}
 use Rattle.node.specs.Accepted.{nowhere, record_at, has_pair}
-use Rattle.node.proofs.Rows.{R, val, vals, typed, place_of, byte_fits, looks-rows, row_out}
-use Rattle.node.proofs.Searches.{Outer, Inner, outer-none, inner_start, inner-here, inner-later, inner-none}
+use Rattle.node.proofs.Rows.{R, val, vals, typed, place_of, byte_fits, looks_rows, row_out}
+use Rattle.node.proofs.Searches.{Outer, Inner, outer_none, inner_start, inner_here, inner_later, inner_none}
 use Rattle.ground.proofs.Walk.{guards, while-lt, env_of, slots, clears}
 use Rattle.node.specs.contracts.accepted.has_pair.Key.{name as #f}
 use Rattle.node.specs.contracts.accepted.has_pair as f
@@ -168,13 +168,13 @@ module _ {M : Type 1} {𝓤 : Ura M} (𝓛 : Logic 𝓤) (at_mem : Memory → SP
         assigns ! (bin ! (load ! (from ! (stop !)) (look ! 6 refl)) (load ! (from ! (stop !)) (look ! 4 refl)) tt) (from ! (stop !)) (init ! 2 refl (tt, tt)) $
         guards ! (load ! (from ! (stop !)) (look ! 2 refl))
         -- a pair: both loops are left
-        (λ m. assigns ! (of_opd ! (true_lit !)) (from ! (stop !)) (store ! 34 refl (tt, tt)) $ jumps ! $ forget ! 30 refl $ forget ! 28 refl $ forget ! 26 refl $ forget ! 16 refl $ forget ! 14 refl $ forget ! 12 refl $ forget ! 10 refl $ forget ! 8 refl $ forget ! 6 refl $ forget ! 4 refl $ forget ! 2 refl $ by ! (ends true i (inner-here ys i j l m so_far)))
+        (λ m. assigns ! (of_opd ! (true_lit !)) (from ! (stop !)) (store ! 34 refl (tt, tt)) $ jumps ! $ forget ! 30 refl $ forget ! 28 refl $ forget ! 26 refl $ forget ! 16 refl $ forget ! 14 refl $ forget ! 12 refl $ forget ! 10 refl $ forget ! 8 refl $ forget ! 6 refl $ forget ! 4 refl $ forget ! 2 refl $ by ! (ends true i (inner_here ys i j l m so_far)))
         (λ m. assigns_last ! (bin ! (load ! (from ! (stop !)) (look ! 28 refl)) (lit ! tt) (record { fits = next_fits j l })) (from ! (stop !)) (store ! 28 refl (tt, record { fits = next_fits j l })) $
-        forget ! 26 refl $ forget ! 16 refl $ forget ! 14 refl $ forget ! 12 refl $ forget ! 10 refl $ forget ! 8 refl $ forget ! 6 refl $ forget ! 4 refl $ forget ! 2 refl $ again ! (Closer i) (InvIn i) (j, (within, so_far)) (j + 1, (next-in j l, inner-later ys i j l m so_far)) (nearer j l))))
+        forget ! 26 refl $ forget ! 16 refl $ forget ! 14 refl $ forget ! 12 refl $ forget ! 10 refl $ forget ! 8 refl $ forget ! 6 refl $ forget ! 4 refl $ forget ! 2 refl $ again ! (Closer i) (InvIn i) (j, (within, so_far)) (j + 1, (next-in j l, inner_later ys i j l m so_far)) (nearer j l))))
         -- none is left for i: the outer turn goes on
         (λ far. exec ! C Λ En step-on (any_q (Turned (i, (inside, passed)))) $
         assigns_last ! (bin ! (load ! (from ! (stop !)) (look ! 32 refl)) (lit ! tt) (record { fits = next_fits i here })) (from ! (stop !)) (store ! 32 refl (tt, record { fits = next_fits i here })) $
-        forget ! 30 refl $ forget ! 28 refl $ forget ! 16 refl $ again ! Nearer Inv (i, (inside, passed)) (i + 1, (next-in i here, inner-none ys i j far so_far)) (nearer i here))
+        forget ! 30 refl $ forget ! 28 refl $ forget ! 16 refl $ again ! Nearer Inv (i, (inside, passed)) (i + 1, (next-in i here, inner_none ys i j far so_far)) (nearer i here))
 
     outer : (u : At) → Sq 𝓛 (Inv u) (runs C Λ En part.turn-2 (any_q (Turned u)))
     unfolding after_turn
@@ -192,7 +192,7 @@ module _ {M : Type 1} {𝓤 : Ura M} (𝓛 : Logic 𝓤) (at_mem : Memory → SP
         assigns ! (bin ! (load ! (from ! (stop !)) (look ! 32 refl)) (lit ! tt) (record { fits = next_fits i l })) (from ! (stop !)) (init ! 28 refl (tt, record { fits = next_fits i l })) $
         forget ! 24 refl $ forget ! 22 refl $ forget ! 20 refl $ forget ! 18 refl $
         first ! $ blocks ! $ loops ! 𝓣 (Closer i) (Closer-wf i) (InvIn i) (inner i inside passed l) (i + 1, (next-in i l, inner_start ys i l passed))))
-        (λ far. forget ! 24 refl $ by ! (ends false i (outer-none ys i far passed)))
+        (λ far. forget ! 24 refl $ by ! (ends false i (outer_none ys i far passed)))
 
   walk : (𝓣 : Tables 𝓤 H) → Room R (length ys) → ent 𝓤 (on_entry 𝓛 f.signature (κ, tt) (q, tt) x at) (WpFn 𝓤 H 𝓣.C 𝓣.Λ code.function (tv ∷ []) Post)
   walk 𝓣 room =
@@ -203,7 +203,7 @@ module _ {M : Type 1} {𝓤 : Ura M} (𝓛 : Logic 𝓤) (at_mem : Memory → SP
       assigns ! (of_opd ! (false_lit !)) (from ! (stop !)) (init ! 32 refl (tt, tt)) $
       assigns ! (of_opd ! (lit ! tt)) (from ! (stop !)) (init ! 30 refl (tt, record { fits = lit< tt })) $
       move ! (41 ∷ []) $ fsplit ! $ fsplit ! $ drop ! $ fsplit ! $ drop ! $ move ! (42 ∷ []) $ split ! $ move ! (2 ∷ 0 ∷ []) $
-      looks-rows ! tt ys b o (λ q'. keep ! (0 ∷ 1 ∷ 5 ∷ 6 ∷ 7 ∷ 8 ∷ 9 ∷ 10 ∷ 11 ∷ 12 ∷ 13 ∷ 14 ∷ 15 ∷ 16 ∷ 17 ∷ 18 ∷ 19 ∷ 20 ∷ 21 ∷ 22 ∷ 23 ∷ 24 ∷ 25 ∷ 26 ∷ 27 ∷ 28 ∷ 29 ∷ 30 ∷ 31 ∷ 32 ∷ 33 ∷ 34 ∷ 35 ∷ 36 ∷ 37 ∷ 38 ∷ 39 ∷ 40 ∷ 41 ∷ 42 ∷ 43 ∷ 44 ∷ []) $
+      looks_rows ! tt ys b o (λ q'. keep ! (0 ∷ 1 ∷ 5 ∷ 6 ∷ 7 ∷ 8 ∷ 9 ∷ 10 ∷ 11 ∷ 12 ∷ 13 ∷ 14 ∷ 15 ∷ 16 ∷ 17 ∷ 18 ∷ 19 ∷ 20 ∷ 21 ∷ 22 ∷ 23 ∷ 24 ∷ 25 ∷ 26 ∷ 27 ∷ 28 ∷ 29 ∷ 30 ∷ 31 ∷ 32 ∷ 33 ∷ 34 ∷ 35 ∷ 36 ∷ 37 ∷ 38 ∷ 39 ∷ 40 ∷ 41 ∷ 42 ∷ 43 ∷ 44 ∷ []) $
       first ! $ blocks ! $ loops ! 𝓣 Nearer Nearer-wf (Inv 𝓣 room q' l₀ l₁ l₂ l₃ l₄ l₅ l₆ l₇ l₈ l₉ l₁₀ l₁₁ l₁₂ l₁₃ l₁₄ l₁₅ l₁₆ l₁₇ l₁₈ l₁₉) (outer 𝓣 room q' l₀ l₁ l₂ l₃ l₄ l₅ l₆ l₇ l₈ l₉ l₁₀ l₁₁ l₁₂ l₁₃ l₁₄ l₁₅ l₁₆ l₁₇ l₁₈ l₁₉) (0, (omega arith, refl)))))))))))))))))))))))
 
 module _ {M : Type 1} {𝓤 : Ura M} (𝓛 : Logic 𝓤) (at_mem : Memory → SProp 𝓤) (run : Routine → Fun 𝓤) where

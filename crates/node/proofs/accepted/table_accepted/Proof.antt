@@ -14,7 +14,7 @@ use Rattle.node.specs.Accepted.{bounds_accepted, all_accepted, has_pair}
 use Rattle.node.proofs.Rows.{R}
 use Rattle.ground.proofs.Frame.{gives-within}
 use Rattle.node.proofs.Shared.{own_fits}
-use Rattle.node.proofs.Searches.{refused-bounds, refused-record, by-pairs}
+use Rattle.node.proofs.Searches.{refused_bounds, refused_record, by_pairs}
 use Rattle.node.proofs.Walking.{◌≡◌, ◌∙◌, refl, ap, length, List, [], ◌∷◌, Ura, w32, w64, SProp, emp, id⊢, Memory, Routine, Calls, Loops, Fun, fact_i, tables, tables_of, FmC, fm_of, ‵, use0, use1, ◌$◌, !, by, move, drop, fsplit, fjoin, now, owns, types_at, lasts, cited, Triple, look_in, sub, and_then, no_more, of_opd, load, from, fld, stop, only, nothing}
 use Rattle.node.proofs.Walking.{guards, local, val, vals, sets, lands_as, gives, Param, number, rows, head, spells, tellss, lawfuls, Met, bound, Walk, enters_by, ends, silent, calls-said}
 use Rattle.node.specs.contracts.accepted.bounds_accepted as g
@@ -55,12 +55,12 @@ module _ {M : Type 1} {𝓤 : Ura M} (𝓛 : Logic 𝓤) (at_mem : Memory → SP
       use0 𝓛 (‵ (owns (types_at (g.signature).params tt) y₁.0.3 y₁.0.4)) (owns_make 𝓛 (usize ∷ u32 ∷ []) (Ises (usize ∷ u32 ∷ [])) (uint_Makes 𝓛 w64, (uint_Makes 𝓛 w32, tt)) y₁.0.3 y₁.0.4 ((refl, are.0.0.1.0), ((refl, own_fits h are.1.0), tt))) $ nothing ! $
       calls-said ! fm g.ended (g.clauses 𝓛 at_mem run) known-g (y₁) (id⊢ 𝓤 (emp 𝓤)) (λ z ws. z ≡ bounds_accepted (length (now t)) h.own) (λ z ws. id⊢ 𝓤 _) (and_then ! (val ! 1 refl refl) (and_then ! (load ! (from ! (fld ! refl (stop !))) (look_in ! 1 (sub ! 0 refl (local ! 2 refl)))) (no_more !))) (λ w z ws is e. drop ! $ drop ! $
       lands_as ! (ap only is ∙ ap vbool e) tt (tt, tt) $ sets ! (un ! (val ! 0 refl refl) tt) tt (tt, tt) $ guards ! (val ! 0 refl refl)
-      (λ m. sets ! (of_opd ! (false_lit !)) tt (tt, tt) $ gives-within ! ((Met 𝓛 f.ended (f.clauses 𝓛 at_mem run)).post y) refl refl tt $ drop ! $ drop ! $ use0 𝓛 (‵ (lasts f.ended κs a (tt, (tt, tt)))) (silent 𝓛 2) $ by ! (ends 𝓛 f.ended (f.clauses 𝓛 at_mem run) y _ false (tt, (tt, tt)) (bool_Makes 𝓛 false _ refl) (fact_i 𝓤 _ (emp 𝓤) (refused-bounds h (now t) m))))
+      (λ m. sets ! (of_opd ! (false_lit !)) tt (tt, tt) $ gives-within ! ((Met 𝓛 f.ended (f.clauses 𝓛 at_mem run)).post y) refl refl tt $ drop ! $ drop ! $ use0 𝓛 (‵ (lasts f.ended κs a (tt, (tt, tt)))) (silent 𝓛 2) $ by ! (ends 𝓛 f.ended (f.clauses 𝓛 at_mem run) y _ false (tt, (tt, tt)) (bool_Makes 𝓛 false _ refl) (fact_i 𝓤 _ (emp 𝓤) (refused_bounds h (now t) m))))
       (λ m. move ! (3 ∷ 1 ∷ []) $ calls-said ! fm s.ended (s.clauses 𝓛 at_mem run) known-s (bound 𝓛 s.ended (s.clauses 𝓛 at_mem run) (spells params) κs qs tt a tt) (id⊢ 𝓤 (emp 𝓤)) (λ z ws. z ≡ all_accepted h (now t)) (λ z ws. id⊢ 𝓤 _) (vals ! 1 refl refl) (λ w z ws is e. drop ! $ move ! (1 ∷ []) $
       lands_as ! (ap only is ∙ ap vbool e) tt (tt, tt) $ sets ! (un ! (val ! 0 refl refl) tt) tt (tt, tt) $ guards ! (val ! 0 refl refl)
-      (λ n. sets ! (of_opd ! (false_lit !)) tt (tt, tt) $ gives-within ! ((Met 𝓛 f.ended (f.clauses 𝓛 at_mem run)).post y) refl refl tt $ move ! (1 ∷ []) $ drop ! $ use0 𝓛 (‵ (lasts f.ended κs a (tt, (tt, tt)))) (silent 𝓛 2) $ by ! (ends 𝓛 f.ended (f.clauses 𝓛 at_mem run) y _ false (tt, (tt, tt)) (bool_Makes 𝓛 false _ refl) (fact_i 𝓤 _ (emp 𝓤) (refused-record h (now t) m n))))
+      (λ n. sets ! (of_opd ! (false_lit !)) tt (tt, tt) $ gives-within ! ((Met 𝓛 f.ended (f.clauses 𝓛 at_mem run)).post y) refl refl tt $ move ! (1 ∷ []) $ drop ! $ use0 𝓛 (‵ (lasts f.ended κs a (tt, (tt, tt)))) (silent 𝓛 2) $ by ! (ends 𝓛 f.ended (f.clauses 𝓛 at_mem run) y _ false (tt, (tt, tt)) (bool_Makes 𝓛 false _ refl) (fact_i 𝓤 _ (emp 𝓤) (refused_record h (now t) m n))))
       (λ n. nothing ! $ move ! (3 ∷ 0 ∷ []) $ fjoin ! $ move ! (2 ∷ 0 ∷ []) $ calls-said ! fm p.ended (p.clauses 𝓛 at_mem run) known-p (bound 𝓛 p.ended (p.clauses 𝓛 at_mem run) (spells searched) κs qs tt (t, tt) tt) (id⊢ 𝓤 (emp 𝓤)) (λ z ws. z ≡ has_pair (now t)) (λ z ws. id⊢ 𝓤 _) (vals ! 1 refl refl) (λ w z ws is e. drop ! $ move ! (1 ∷ []) $
-      lands_as ! (ap only is ∙ ap vbool e) tt (tt, tt) $ sets ! (un ! (val ! 0 refl refl) tt) tt (tt, tt) $ gives ! refl tt $ use0 𝓛 (‵ (lasts f.ended κs a (tt, (tt, tt)))) (silent 𝓛 2) $ by ! (ends 𝓛 f.ended (f.clauses 𝓛 at_mem run) y _ (not (has_pair (now t))) (tt, (tt, tt)) (bool_Makes 𝓛 (not (has_pair (now t))) _ refl) (fact_i 𝓤 _ (emp 𝓤) (by-pairs h (now t) m n))))))))
+      lands_as ! (ap only is ∙ ap vbool e) tt (tt, tt) $ sets ! (un ! (val ! 0 refl refl) tt) tt (tt, tt) $ gives ! refl tt $ use0 𝓛 (‵ (lasts f.ended κs a (tt, (tt, tt)))) (silent 𝓛 2) $ by ! (ends 𝓛 f.ended (f.clauses 𝓛 at_mem run) y _ (not (has_pair (now t))) (tt, (tt, tt)) (bool_Makes 𝓛 (not (has_pair (now t))) _ refl) (fact_i 𝓤 _ (emp 𝓤) (by_pairs h (now t) m n))))))))
 
 pub table-accepted-spec : {M : Type 1} → stated.statement M
 unfolding code.routine tables_of

@@ -51,8 +51,8 @@ use Rattle.node.specs.Accepted.{nowhere, record_at}
 use Rattle.node.specs.Matching.{first_match}
 use Rattle.node.specs.contracts.Route as U
 use Rattle.node.proofs.Route.TheLaws as U'
-use Rattle.node.proofs.Rows.{R, vals, typed, place_of, byte_fits, looks-rows, row_out}
-use Rattle.node.proofs.Searches.{Passed, found_here, found_none, found-later}
+use Rattle.node.proofs.Rows.{R, vals, typed, place_of, byte_fits, looks_rows, row_out}
+use Rattle.node.proofs.Searches.{Passed, found_here, found_none, found_later}
 use Rattle.ground.proofs.Walk.{while-lt, breaks, env_of, slots, clears}
 use Rattle.node.specs.contracts.matching.first_match.Key.{name as #f}
 use Rattle.node.specs.contracts.matching.first_match as f
@@ -148,7 +148,7 @@ module _ {M : Type 1} {𝓤 : Ura M} (𝓛 : Logic 𝓤) (at_mem : Memory → SP
         (λ m. forget ! 18 refl $ forget ! 16 refl $ forget ! 14 refl $ forget ! 12 refl $ forget ! 10 refl $ forget ! 8 refl $ forget ! 6 refl $ forget ! 4 refl $ forget ! 2 refl $ by ! (ends i (found_here w ys i l m passed) (fits i inside)))
         -- the next one
         (λ m. assigns_last ! (bin ! (load ! (from ! (stop !)) (look ! 20 refl)) (lit ! tt) (record { fits = next_fits i l })) (from ! (stop !)) (store ! 20 refl (tt, record { fits = next_fits i l })) $
-        forget ! 18 refl $ forget ! 16 refl $ forget ! 14 refl $ forget ! 12 refl $ forget ! 10 refl $ forget ! 8 refl $ forget ! 6 refl $ forget ! 4 refl $ forget ! 2 refl $ again ! Nearer (λ (v : At). Inv v.0) (i, (inside, passed)) (i + 1, (next-in i l, found-later w ys i l m passed)) (nearer i l))))
+        forget ! 18 refl $ forget ! 16 refl $ forget ! 14 refl $ forget ! 12 refl $ forget ! 10 refl $ forget ! 8 refl $ forget ! 6 refl $ forget ! 4 refl $ forget ! 2 refl $ again ! Nearer (λ (v : At). Inv v.0) (i, (inside, passed)) (i + 1, (next-in i l, found_later w ys i l m passed)) (nearer i l))))
         -- none is left
         (λ far. forget ! 16 refl $ forget ! 14 refl $ by ! (ends i (found_none w ys i far passed) (fits i inside)))
       where
@@ -171,7 +171,7 @@ module _ {M : Type 1} {𝓤 : Ura M} (𝓛 : Logic 𝓤) (at_mem : Memory → SP
       pass1 ! (init ! 22 refl (tt, (tt, (record { fits = room.0 }, tt)))) $ pass1 ! (init ! 20 refl ((LL.lawful U.the_type U'.the_laws 𝓛).typed w _ gw).0) $ pass0 ! $
       assigns ! (of_opd ! (lit ! tt)) (from ! (stop !)) (init ! 18 refl (tt, record { fits = lit< tt })) $
       move ! (27 ∷ []) $ fsplit ! $ fsplit ! $ drop ! $ fsplit ! $ drop ! $ move ! (28 ∷ []) $ split ! $ move ! (2 ∷ 0 ∷ []) $
-      looks-rows ! tt ys b o (λ q'. keep ! (0 ∷ 1 ∷ 5 ∷ 6 ∷ 7 ∷ 8 ∷ 9 ∷ 10 ∷ 11 ∷ 12 ∷ 13 ∷ 14 ∷ 15 ∷ 16 ∷ 17 ∷ 18 ∷ 19 ∷ 20 ∷ 21 ∷ 22 ∷ 23 ∷ 24 ∷ 25 ∷ 26 ∷ 27 ∷ 28 ∷ 29 ∷ 30 ∷ []) $
+      looks_rows ! tt ys b o (λ q'. keep ! (0 ∷ 1 ∷ 5 ∷ 6 ∷ 7 ∷ 8 ∷ 9 ∷ 10 ∷ 11 ∷ 12 ∷ 13 ∷ 14 ∷ 15 ∷ 16 ∷ 17 ∷ 18 ∷ 19 ∷ 20 ∷ 21 ∷ 22 ∷ 23 ∷ 24 ∷ 25 ∷ 26 ∷ 27 ∷ 28 ∷ 29 ∷ 30 ∷ []) $
       first ! $ blocks ! $ loops ! 𝓣 Nearer Nearer-wf (λ (v : At). Inv 𝓣 room q' l₀ l₁ l₂ l₃ l₄ l₅ l₆ l₇ l₈ l₉ l₁₀ l₁₁ l₁₂ v.0) (turns 𝓣 room q' l₀ l₁ l₂ l₃ l₄ l₅ l₆ l₇ l₈ l₉ l₁₀ l₁₁ l₁₂) (0, (omega arith, sym (zero-add _)))))))))))))))))
 
 module _ {M : Type 1} {𝓤 : Ura M} (𝓛 : Logic 𝓤) (at_mem : Memory → SProp 𝓤) (run : Routine → Fun 𝓤) where

@@ -9,11 +9,11 @@ use Rattle.node.specs.Calls.Call.{Close}
 use Rattle.node.specs.contracts.Outcome as O
 use Rattle.node.proofs.Outcome.TheLaws as O'
 use Rattle.node.proofs.Walking.{refl, ap, lit<, List, [], ◌∷◌, Ura, full_share, w32, w64, SProp, emp, id⊢, Memory, Routine, Calls, Loops, Fun, fact_i, tables, tables_of, FmC, fm_of, ◌$◌, !, by, move, drop, join, fsplit, fjoin, now, cited, Triple, agg, and_then, no_more, addr, lit, from, stop, nothing}
-use Rattle.node.proofs.Walking.{val, vals, sets, reborrows, lifts, gives, Param, number, record', table, head, bytes, buffer, spells, tellss, lawfuls, Met, bound, Walk, enters_by, ends, calls-said, Said, told, lent, lands-struct}
+use Rattle.node.proofs.Walking.{val, vals, sets, reborrows, lifts, gives, Param, number, record', table, head, bytes, buffer, spells, tellss, lawfuls, Met, bound, Walk, enters_by, ends, calls-said, Said, told, lent, lands_struct}
 use Rattle.tables.specs.declared.Left.{Left}
 use Rattle.tables.specs.contracts.Left as LF
 use Rattle.tables.proofs.Left.TheLaws as LF'
-use Rattle.tables.proofs.Arrays.{two, two_typed, lends-two, comes_back, reads-record, stows, within}
+use Rattle.tables.proofs.Arrays.{two, two_typed, lends_two, comes_back, reads_record, stows, within}
 use Rattle.node.specs.contracts.close as g
 use Rattle.node.proofs.close.Symbol as g-def
 use Rattle.node.proofs.close.Symbol.{name as #g}
@@ -42,12 +42,12 @@ module _ {M : Type 1} {𝓤 : Ura M} (𝓛 : Logic 𝓤) (at_mem : Memory → SP
       sets ! (agg ! (and_then ! (val ! 0 refl refl) (and_then ! (val ! 0 refl refl) (no_more !)))) tt (two_typed 𝓛 x₁ x₂ are.0 are.1.0) $ sets ! (addr ! (from ! (stop !))) tt (tt, tt) $ sets ! (agg ! (and_then ! (val ! 0 refl refl) (and_then ! (lit ! tt) (no_more !)))) tt (tt, (tt, (record { fits = lit< tt }, tt))) $
       reborrows ! refl refl refl refl (tt, tt) (tt, tt) (tt, (tt, (record { fits = are.1.1.1.1.1.1.1.1.0.0.1.0 }, tt))) $
       -- the array is taken out of the locals, and lent for a lifetime of the call
-      lifts ! 10 refl $ lends-two ! tt l₁₀ x₁ x₂ are.0 are.1.0 (λ α δ. move ! (5 ∷ []) $ fsplit ! $ drop ! $ fsplit ! $ drop ! $ move ! (2 ∷ 0 ∷ []) $ fjoin ! $ move ! (1 ∷ 4 ∷ []) $ join ! $ move ! (0 ∷ 1 ∷ 3 ∷ []) $
+      lifts ! 10 refl $ lends_two ! tt l₁₀ x₁ x₂ are.0 are.1.0 (λ α δ. move ! (5 ∷ []) $ fsplit ! $ drop ! $ fsplit ! $ drop ! $ move ! (2 ∷ 0 ∷ []) $ fjoin ! $ move ! (1 ∷ 4 ∷ []) $ join ! $ move ! (0 ∷ 1 ∷ 3 ∷ []) $
       calls-said ! fm g.ended (g.clauses 𝓛 at_mem run) known-call (bound 𝓛 g.ended (g.clauses 𝓛 at_mem run) (spells called) (α ∷ [], κs) (full_share, qs) tt (lent l₁₀ 0 (two x₁ x₂) δ, a.1.1) tt) (id⊢ 𝓤 (emp 𝓤))
       (λ u ws. Said this h (two x₁ x₂) time (now out) u ws.0 ws.1.1.1.1.1.1.1.0) (λ u ws. id⊢ 𝓤 _) (vals ! 1 refl refl) (λ w u ws is e.
       -- the lifetime ends, the array is back, and its records are read
-      comes_back ! tt l₁₀ ws.0 (λ lz. lands-struct ! O.the_type O'.the_laws u is tt refl $ reads-record ! ws.0 0 (within 0 ws.0 lz (lit< tt)) tt refl ((tt, tt), (tt, tt)) (tt, tt) refl refl refl refl refl (λ g₁.
-      reads-record ! ws.0 1 (within 1 ws.0 lz (lit< tt)) tt refl ((tt, tt), (tt, tt)) (tt, tt) refl refl refl refl refl (λ g₂. stows ! 10 ws.0 lz refl tt refl $ let at = LL.owes LF.the_type LF'.the_laws (left u ws.0) (g₁, (g₂, ((told O.the_type O'.the_laws u w is).0, tt))) in
+      comes_back ! tt l₁₀ ws.0 (λ lz. lands_struct ! O.the_type O'.the_laws u is tt refl $ reads_record ! ws.0 0 (within 0 ws.0 lz (lit< tt)) tt refl ((tt, tt), (tt, tt)) (tt, tt) refl refl refl refl refl (λ g₁.
+      reads_record ! ws.0 1 (within 1 ws.0 lz (lit< tt)) tt refl ((tt, tt), (tt, tt)) (tt, tt) refl refl refl refl refl (λ g₂. stows ! 10 ws.0 lz refl tt refl $ let at = LL.owes LF.the_type LF'.the_laws (left u ws.0) (g₁, (g₂, ((told O.the_type O'.the_laws u w is).0, tt))) in
       sets ! (agg ! (and_then ! (val ! 0 refl refl) (and_then ! (val ! 0 refl refl) (and_then ! (val ! 0 refl refl) (no_more !))))) tt ((LL.lawful LF.the_type LF'.the_laws 𝓛).typed (left u ws.0) _ at).0 $ gives ! refl tt $ nothing ! $ fjoin ! $ nothing ! $ fjoin ! $
       by ! (ends 𝓛 f.ended (f.clauses 𝓛 at_mem run) y _ (left u ws.0) (tt, (tt, ws.1)) (LL.makes LF.the_type LF'.the_plain 𝓛 (left u ws.0) _ at)
       (fact_i 𝓤 _ (emp 𝓤) (e.0, (ap (λ (t : List Record). record_at t 0) e.1.0, (ap (λ (t : List Record). record_at t 1) e.1.0, e.1.1))))))))))

@@ -24,10 +24,10 @@ part-result-start : tie.Need-slice-bounds-result-start
 part-result-start c = search rules
 
 part-result-end : tie.Need-slice-bounds-result-end
-part-result-end c = inside_by _ _ c.before.before.net-part.ensures
+part-result-end c = inside_by _ _ c.before.before.net_part_holds.ensures
 
 returns : tie.Need-returns
-returns c = data_by _ _ c.before.before.before.net-part.ensures
+returns c = data_by _ _ c.before.before.before.net_part_holds.ensures
 
 pub net-data-spec : {M : Type 1} → statement M
 net-data-spec =
