@@ -122,9 +122,9 @@ keeps_1000 h t i T U sent_at_holds taken_at T-is U-is phase w =
     }
 
 -- None named, as a record may have it.
-none_named : (i : IdleTime) → i.named ≡ false → declared_by i ≡ 1000
+none_named_lem : (i : IdleTime) → i.named ≡ false → declared_by i ≡ 1000
 unfolding declared_by pick
-none_named i none = rw none refl
+none_named_lem i none = rw none refl
 
 pub demand_2_idle_times : Demand2IdleTimes called
 demand_2_idle_times =
@@ -133,8 +133,8 @@ demand_2_idle_times =
       named = λ time. declares (naming time) time (lowest_first 2 time) (unnamed.named time) refl;
       neither = λ p first second s done.
           let both = demand_2_set_up p s done in
-          let T = none_named p.first.idle_time_holds first in
-          let U = none_named p.second.idle_time_holds second in
+          let T = none_named_lem p.first.idle_time_holds first in
+          let U = none_named_lem p.second.idle_time_holds second in
           record {
             opener = keeps_1000 _ _ p.i _ _ p.third.time p.fifth.time T U both.connected.towards.open_to.open_here both.opener_watches;
             responder = keeps_1000 _ _ p.j _ _ p.fourth.time p.fourth.time U T both.connected.towards.open_to.open_there both.responder_watches;
