@@ -154,9 +154,9 @@ ticking p declares watches x y l h =
     columns (λ (q : ℕ). 2 ≤ q → q ≤ 5 → of_phase (tick_refusal (at q declares watches) 8 room) ≡ true) p (omega arith) (omega arith)
     (λ m _. absurd (omega arith)) (λ _ _. rw (x, y)) (λ _ _. rw (x, y)) (λ _ _. rw (x, y)) (λ _ _. rw (x, y)) (λ _ m. absurd (omega arith)) l h
 
-at_rest : (p : ℕ) → 1 ≤ p → p ≤ 6 → of_phase (tick_refusal (at p 0 0) 8 room) ≡ true
+at_rest_lem : (p : ℕ) → 1 ≤ p → p ≤ 6 → of_phase (tick_refusal (at p 0 0) 8 room) ≡ true
 unfolding tick_refusal first_refusal record_in_range is_phase is_closed at_rest in_range end_of good_idle pick
-at_rest p l h = columns (λ (q : ℕ). of_phase (tick_refusal (at q 0 0) 8 room) ≡ true) p l h refl refl refl refl refl refl
+at_rest_lem p l h = columns (λ (q : ℕ). of_phase (tick_refusal (at q 0 0) 8 room) ≡ true) p l h refl refl refl refl refl refl
 
 -- at time 0 nothing has run out, and with no idle time declared nothing is due
 in_time : (p : ℕ) → 1 ≤ p → p ≤ 6 → run_out (at p 0 0) 0 ≡ false
@@ -169,7 +169,7 @@ none_due p l h = columns (λ (q : ℕ). pick (eqb q 5) (idle_due (at q 0 0) 0) f
 
 resting : (k : Timer) (p : ℕ) → 1 ≤ p → p ≤ 6 → runs k p ≡ false → Seen (row_of_timer k) p
 resting k p l h off =
-    seen (row_of_timer k) (at p 0 0) 8 0 room (tick_of (at p 0 0) 8 0 room) (tick_out (at p 0 0) 8 0 room) (rw (answers.by_tick (at p 0 0) 8 0 room) (at_rest p l h))
+    seen (row_of_timer k) (at p 0 0) 8 0 room (tick_of (at p 0 0) 8 0 room) (tick_out (at p 0 0) 8 0 room) (rw (answers.by_tick (at p 0 0) 8 0 room) (at_rest_lem p l h))
     (λ table binds. binds.resting k (at p 0 0) 8 0 room off (in_time p l h) (none_due p l h))
 
 -- the wait runs out after 5,001 ms
