@@ -17,6 +17,7 @@ pub const DISCONNECT: u32 = 0x05;
 pub const IDLE: u32 = 0x06;
 
 // Whether these low six bits name a data telegram.
+#[tactic(auto, using(ground::specs::Choice::tests), unfolding(crate::specs::Commands::is_data))]
 pub fn is_data(low: u32) -> bool
     ensures { result ≡ is_data low }
 {
@@ -30,6 +31,7 @@ pub fn is_data(low: u32) -> bool
 }
 
 // What low six bits name.
+#[tactic(auto, using(ground::specs::Choice::tests), unfolding(crate::specs::Commands::kind_of))]
 pub fn kind_of(low: u32) -> Kind
     ensures { result ≡ kind_of low }
 {

@@ -10,6 +10,7 @@ pub const HIGHEST_ADDRESS: u32 = 126;
 const HIGHEST_SAP: u32 = 62;
 
 // Whether there is such a level.
+#[tactic(auto, unfolding(ground::specs::Choice::pick))]
 pub(crate) fn is_level(level: u32) -> bool
     ensures { result ≡ is_level level }
 {
@@ -20,6 +21,7 @@ pub(crate) fn is_level(level: u32) -> bool
 }
 
 // Whether addresses, SAPs and level are in range.
+#[tactic(auto, using(ground::specs::Choice::tests), unfolding(crate::specs::Ends::in_range))]
 pub fn in_range(end: End) -> bool
     ensures { result ≡ in_range end }
 {
@@ -39,6 +41,7 @@ pub fn in_range(end: End) -> bool
 }
 
 // The eight implicit bytes, with the addresses and SAPs as the telegram travels.
+#[tactic(auto, unfolding(crate::specs::Ends::implicit))]
 fn implicit_bytes(
     count: usize,
     receiver: u32,

@@ -42,6 +42,7 @@ pub fn most_net(kind: Kind, level: u32) -> usize
 }
 
 // Whether this length suits the kind and level.
+#[tactic(auto, using(ground::specs::Choice::tests))]
 pub fn length_suits(kind: Kind, level: u32, length: usize) -> bool
     ensures { result ≡ suits kind level length }
 {
@@ -55,6 +56,7 @@ pub fn length_suits(kind: Kind, level: u32, length: usize) -> bool
 }
 
 // Whether the bus can carry a telegram of this length for us.
+#[tactic(auto, using(ground::specs::Choice::tests))]
 pub fn on_bus(length: usize) -> bool
     ensures { result ≡ on_bus length }
 {

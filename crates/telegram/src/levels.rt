@@ -6,6 +6,7 @@ ghost use Rattle.telegram.specs.Telegrams.{check_word};
 use crate::Level;
 
 // The level that a command's top two bits give.
+#[tactic(auto, using(ground::specs::Choice::tests), unfolding(crate::specs::Levels::level_of))]
 pub fn level_of(command: u8) -> Level
     ensures { result ≡ level_of command }
 {
@@ -23,6 +24,7 @@ pub fn level_of(command: u8) -> Level
 }
 
 // The top two bits of the level's commands.
+#[tactic(auto, using(ground::specs::Choice::tests), unfolding(crate::specs::Levels::top_bits))]
 pub fn top_bits(level: u32) -> u32
     ensures { result ≡ top_bits level }
 {
@@ -30,6 +32,7 @@ pub fn top_bits(level: u32) -> u32
 }
 
 // How many bytes the level's check word has.
+#[tactic(auto, using(ground::specs::Choice::tests), unfolding(crate::specs::Levels::word_length))]
 pub fn word_length(level: u32) -> usize
     ensures { result ≡ word_length level }
 {
@@ -37,6 +40,7 @@ pub fn word_length(level: u32) -> usize
 }
 
 // What authentication adds to the number received.
+#[tactic(auto, using(ground::specs::Choice::tests), unfolding(crate::specs::Levels::added))]
 pub fn added_number(level: u32) -> u32
     ensures { result ≡ added level }
 {

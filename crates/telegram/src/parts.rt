@@ -14,6 +14,7 @@ use crate::{Kind, Level, Part};
 use ground::byte;
 
 // Whether a level, kind and length are a telegram's.
+#[tactic(auto, using(ground::specs::Choice::tests))]
 fn is_telegram(level: u32, kind: Kind, length: usize) -> bool
     ensures { result ≡ all (is_level level ∷ known kind ∷ suits kind level length ∷ []) }
 {
@@ -27,6 +28,7 @@ fn is_telegram(level: u32, kind: Kind, length: usize) -> bool
 }
 
 // After the header and before the check word.
+#[tactic(auto, using(ground::specs::Choice::tests))]
 fn part_of(level: u32, kind: Kind, length: usize) -> Part
     ensures { result ≡ part_of (Level.Sl level) kind length }
 {
@@ -41,6 +43,7 @@ fn part_of(level: u32, kind: Kind, length: usize) -> Part
 }
 
 // Where the net data of a telegram start and how many there are. Both are 0 for bytes that are no telegram's.
+#[tactic(auto, unfolding(crate::specs::NetData::net_part))]
 pub fn net_part(telegram: &[u8]) -> Part
     ensures { result ≡ net_part telegram.now }
 {
