@@ -39,6 +39,7 @@ fn number_used(kind: Kind, expected: u32, t: &[u8]) -> u32
 }
 
 // Whether the fixed fields of a request or confirm are in range.
+#[tactic(auto, using(ground::specs::Choice::tests))]
 fn connect_in_range(t: &[u8]) -> bool
     ensures { result ≡ good_fields Kind.Request (values Kind.Request t.now) }
 {
@@ -76,6 +77,7 @@ fn word_agrees(end: End, used: u32, t: &[u8]) -> bool
 }
 
 // The first clause that fails, of a telegram that the bus can carry.
+#[tactic(auto, using(ground::specs::Choice::tests))]
 fn first_failing(end: End, expected: u32, t: &[u8]) -> Check
     requires { 6 ≤ length t.now }
     ensures { result ≡ first_failing (clauses end expected t.now) }
@@ -106,6 +108,7 @@ fn first_failing(end: End, expected: u32, t: &[u8]) -> Check
 }
 
 // The check of a telegram under an end that expects this number. While a confirm is awaited, the expected number is 0.
+#[tactic(auto, using(ground::specs::Choice::tests), unfolding(telegram::specs::Check::check_of))]
 pub fn checked(end: End, expected: u32, telegram: &[u8]) -> Check
     ensures { result ≡ check_of end expected telegram.now }
 {

@@ -26,6 +26,7 @@ const VERSION_Z: u8 = 0;
 const DUAL_BUS: u8 = 0;
 
 // The first refusal that holds, or 0.
+#[tactic(auto, using(ground::specs::Choice::tests), unfolding(telegram::specs::Writers::refusal))]
 fn first_refusal(end: End, room: usize, allowed: bool) -> u32
     ensures { result ≡ refusal end room allowed }
 {
@@ -114,6 +115,7 @@ fn authentication_fields(level: u32, received: u32) -> [u8; 4]
 }
 
 // Whether a connect request or confirm may carry these values.
+#[tactic(auto, using(ground::specs::Choice::tests), unfolding(telegram::specs::Writers::connect_allowed))]
 pub fn connect_allowed(time: u32, count: usize, level: u32) -> bool
     ensures { result ≡ connect_allowed time count level }
 {
@@ -124,6 +126,7 @@ pub fn connect_allowed(time: u32, count: usize, level: u32) -> bool
 }
 
 // Whether a disconnect may carry these values.
+#[tactic(auto, using(ground::specs::Choice::tests), unfolding(telegram::specs::Writers::disconnect_allowed))]
 pub fn disconnect_allowed(new_setup: u32, reason: u32, count: usize, level: u32) -> bool
     ensures { result ≡ disconnect_allowed new_setup reason count level }
 {
@@ -137,6 +140,7 @@ pub fn disconnect_allowed(new_setup: u32, reason: u32, count: usize, level: u32)
 }
 
 // Whether a data telegram may carry these values.
+#[tactic(auto, using(ground::specs::Choice::tests), unfolding(telegram::specs::Writers::data_allowed))]
 pub fn data_allowed(low: u32, count: usize, level: u32) -> bool
     ensures { result ≡ data_allowed low count level }
 {
