@@ -29,6 +29,9 @@ KEPT = {"Close", "Open", "Received", "Send", "Tick", "R"}
 # The rows and states of the transition table are spelled as SUBSET-057 prints them.
 # Names that no file of specs/ or proofs/ declares, of fields of src/ and of what Rattle makes.
 TAKEN = {"sent_at", "received_at", "idle_time", "own", "partner"}
+# In these crates the three are data of a call, a receipt and a telegram, beside the fields of a record, and no facts of them.
+OF_CALLS = {"sent_at_holds": "sent_at", "received_at_holds": "received_at", "idle_time_holds": "idle_time"}
+CALLING = ("crates/demands/", "crates/echo/", "crates/worked/", "crates/wrong/")
 
 
 def crates():
@@ -132,6 +135,8 @@ def main():
         def one(m):
             word = m[0]
             to = new.get(word, word)
+            if file.startswith(CALLING):
+                to = OF_CALLS.get(to, to)
             if PLAIN.fullmatch(word):
                 seen[to].add(word)
             return to

@@ -135,9 +135,9 @@ unfolding data_of pick
 nothing_of e u reason last p = rw (p, le-leb 0 (length u) (omega arith)) refl
 
 -- the receipt of what came, for the record at place i
-module _ (w : Route) (random : ℕ) (idle_time_holds : IdleTime) (t u net : List ℕ) (h : Head) (table : List Record) (i time : ℕ) (d : List ℕ) (c : ComesDamaged w h table i t u) where
+module _ (w : Route) (random : ℕ) (idle_time : IdleTime) (t u net : List ℕ) (h : Head) (table : List Record) (i time : ℕ) (d : List ℕ) (c : ComesDamaged w h table i t u) where
   abbrev x : Receipt
-  x = record { route = w; random = random; idle_time_holds = idle_time_holds; telegram = u; net = net; head = h; table = table; time = time; buffer = d }
+  x = record { route = w; random = random; idle_time = idle_time; telegram = u; net = net; head = h; table = table; time = time; buffer = d }
 
   not_passing : Passing x → ⊥
   not_passing =
@@ -152,27 +152,27 @@ module _ (w : Route) (random : ℕ) (idle_time_holds : IdleTime) (t u net : List
 
   dropped : (record_at table i).phase ≡ 1 → Done (takes called x) → Dropped (takes called x) table d
   dropped phase done =
-      let g = carried (Received w random idle_time_holds u net) h table time d done in
+      let g = carried (Received w random idle_time u net) h table time d done in
       let quiet =
       when_closed.drops x (subst (λ (y : ℕ). (record_at table y).phase ≡ 1) (sym c.place) phase) (λ good. not_passing good.passes) done in
       record {
         says_nothing = quiet.says;
         writes_nothing = quiet.writes;
-        same_table = g.table ∙ ap (set table (first_match w table)) (sym (left_by (Received w random idle_time_holds u net) h table time d g) ∙ quiet.leaves) ∙ set-get_or table (first_match w table) nowhere;
+        same_table = g.table ∙ ap (set table (first_match w table)) (sym (left_by (Received w random idle_time u net) h table time d g) ∙ quiet.leaves) ∙ set-get_or table (first_match w table) nowhere;
         same_buffer = quiet.buffer;
       }
 
 pub damage_closes : DamageCloses
-damage_closes w random idle_time_holds t u net h table i time d c listens done = turned_away w random idle_time_holds t u net h table i time d c listens done
+damage_closes w random idle_time t u net h table i time d c listens done = turned_away w random idle_time t u net h table i time d c listens done
 
 pub damage_closes_both : DamageClosesBoth
-damage_closes_both n i j random idle_time_holds w t u net m link c early arrives =
+damage_closes_both n i j random idle_time w t u net m link c early arrives =
     let r = record_at n.table i in
-    incorrect_closes n i j random idle_time_holds w u net m link c.place early
+    incorrect_closes n i j random idle_time w u net m link c.place early
     (rw (expects r 5 link.open_to.open_here (omega arith)) at (not_passed _ (comes_failing w n.head n.table i t u c))) arrives
 
 pub damage_is_dropped_when_closed : DamageIsDroppedWhenClosed
-damage_is_dropped_when_closed w random idle_time_holds t u net h table i time d c phase done = dropped w random idle_time_holds t u net h table i time d c phase done
+damage_is_dropped_when_closed w random idle_time t u net h table i time d c phase done = dropped w random idle_time t u net h table i time d c phase done
 
 pub damage_on_the_cable : DamageOnTheCable
 damage_on_the_cable =

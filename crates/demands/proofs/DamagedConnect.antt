@@ -112,7 +112,7 @@ upper a b c d ha hb hc hd =
 record Header (e : End) (m : ℕ) (t : List ℕ) : Type 0 where
   implicit_are : receiving e (used_for m t) (length t) ≡ parties e (length t) ++ (get_or t 3 0 ∷ get_or t 4 0 ∷ get_or t 5 0 ∷ [])
   byte_1_and_3 : get_or t 0 0 ≡ get_or t 2 0
-  idle_time_holds : get_or t 6 0 % 4 ≡ 0
+  idle_time : get_or t 6 0 % 4 ≡ 0
   room : 12 + word_length e.level ≤ length t
 
 -- an idle time is a multiple of 4
@@ -136,7 +136,7 @@ module _ (e : End) (m : ℕ) (t : List ℕ) (bytes : Bytes t) (p : Passed e m t)
         byte_1_and_3 =
             eqb-true (get_or t 0 0) (used_for m t % 256) p.byte_1 ∙ ap (λ (x : ℕ). x % 256) used
             ∙ (digit (get_or t 2 0) (get_or t 3 0 + 256 * (get_or t 4 0 + 256 * (get_or t 5 0 + 256 * 0))) (at 2)).1;
-        idle_time_holds = by_four (get_or t 6 0) (get_or t 7 0) idle;
+        idle_time = by_four (get_or t 6 0) (get_or t 7 0) idle;
         room = room;
       }
 
@@ -199,8 +199,8 @@ module _ (e : End) (m n : ℕ) (t u : List ℕ) (changed : Changed t u) (within 
           bytes = xors_bytes (take 12 t) (take 12 u) (bytes_take 12 t changed.bytes) (bytes_take 12 u changed.came);
           twelve = xors_length (take 12 t) (take 12 u) one_size ∙ twelve t (omega (arith, h.room));
           number = change_at 0 (omega arith) ∙ ap₂ bit_xor h.byte_1_and_3 k.byte_1_and_3 ∙ sym (change_at 2 (omega arith));
-          idle_time_holds =
-              ap (λ (x : ℕ). x % 4) (change_at 6 (omega arith)) ∙ xor_mod (get_or t 6 0) (get_or u 6 0) 2 ∙ ap₂ bit_xor h.idle_time_holds k.idle_time_holds;
+          idle_time =
+              ap (λ (x : ℕ). x % 4) (change_at 6 (omega arith)) ∙ xor_mod (get_or t 6 0) (get_or u 6 0) 2 ∙ ap₂ bit_xor h.idle_time k.idle_time;
           start = within.start;
           early = early;
           before = λ i low. unchanged i (within.before i low);

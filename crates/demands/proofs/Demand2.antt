@@ -68,7 +68,7 @@ record Link (h : Head) (t : List Record) (i : ℕ) (k : Head) (u : List Record) 
 -- the call with which the partner takes what a call for the record r of the node h wrote
 abbrev arrival : Left → Head → Record → ℕ → IdleTime → List ℕ → Head → List Record → ℕ → List ℕ → Receipt
 arrival l h r random idle net k u at e =
-    record { route = route_from h.own r; random = random; idle_time_holds = idle; telegram = telegram_of l; net = net; head = k; table = u; time = at; buffer = e }
+    record { route = route_from h.own r; random = random; idle_time = idle; telegram = telegram_of l; net = net; head = k; table = u; time = at; buffer = e }
 
 -- a call keeps the node's address
 pub own_kept : (c : Call) (h : Head) (t : List Record) (time : ℕ) (d : List ℕ) → Done (called c h t time d) → (called c h t time d).outcome.head.own ≡ h.own
@@ -167,23 +167,23 @@ watching r q e =
 
 -- and so of the nodes, under the heads that come back
 goes_on : (n : Nodes) (i j : ℕ) (c : Call) (m : Moment) → Towards n i j → Done (given called n c m) → Done (got called n i c m)
-    → Moved n.table (given called n c m).table i m.sent_at_holds n.table' (got called n i c m).table j m.received_at_holds → GoesOn called n i j c m
+    → Moved n.table (given called n c m).table i m.sent_at n.table' (got called n i c m).table j m.received_at → GoesOn called n i j c m
 unfolding sent taken become
 goes_on n i j c m link done took moved =
-    let own = own_kept c n.head n.table m.sent_at_holds m.buffer done in
-    let own' = own_kept _ n.head' n.table' m.received_at_holds m.buffer' took in
+    let own = own_kept c n.head n.table m.sent_at m.buffer done in
+    let own' = own_kept _ n.head' n.table' m.received_at m.buffer' took in
     record {
       towards =
           record {
             here = moved.here;
             there = moved.there;
-            open_to = rw (own, own', moved.left, moved.taken_is) (still_open n.head.own n.head'.own m.sent_at_holds m.received_at_holds (record_at n.table i) (record_at n.table' j) link.open_to);
+            open_to = rw (own, own', moved.left, moved.taken_is) (still_open n.head.own n.head'.own m.sent_at m.received_at (record_at n.table i) (record_at n.table' j) link.open_to);
           };
       back = λ b.
           record {
             here = moved.there;
             there = moved.here;
-            open_to = rw (own, own', moved.left, moved.taken_is) (still_back n.head.own n.head'.own m.sent_at_holds m.received_at_holds (record_at n.table i) (record_at n.table' j) b.open_to);
+            open_to = rw (own, own', moved.left, moved.taken_is) (still_back n.head.own n.head'.own m.sent_at m.received_at (record_at n.table i) (record_at n.table' j) b.open_to);
           };
       sender_watches = watching _ _ moved.left;
       partner_watches = watching _ _ moved.taken_is;
@@ -199,7 +199,7 @@ low_back l number low e net small = modulo (top_bits e.level) low small
     modulo : (m n : ℕ) → n < 64 → (m * 64 + n) % 64 ≡ n
     modulo m n s = omega arith
 
-module _ (h k : Head) (t u : List Record) (i j low time at random : ℕ) (idle_time_holds : IdleTime) (net spare d e : List ℕ) where
+module _ (h k : Head) (t u : List Record) (i j low time at random : ℕ) (idle_time : IdleTime) (net spare d e : List ℕ) where
   abbrev r : Record
   r = record_at t i
 
@@ -229,11 +229,11 @@ module _ (h k : Head) (t u : List Record) (i j low time at random : ℕ) (idle_t
         ap low_of is ∙ low_back end.level r.sending low end net (data_small low (data_command low (length net) end.level ok.2)).1
 
     abbrev came : Left
-    came = takes called (arrival l h r random idle_time_holds spare k u at e)
+    came = takes called (arrival l h r random idle_time spare k u at e)
 
     module _ (link : Link h t i k u j) (watch : watch_over (record_at u j) at ≡ false) (got : Done came) where
       there : Does came e j (handing_up (record_at u j) at (telegram_of l))
-      there = taken_there l h k t u i j at random idle_time_holds spare e kind.Data [] net link watch is_taken got
+      there = taken_there l h k t u i j at random idle_time spare e kind.Data [] net link watch is_taken got
 
       up : ComesUp low net (telegram_of l) came.outcome.event
       up =
@@ -241,7 +241,7 @@ module _ (h k : Head) (t u : List Record) (i j low time at random : ℕ) (idle_t
           record {
             data_event = two;
             command = ap (λ (y : Event). (happened y).command) there.says ∙ low_is;
-            net_data_holds = net_data_handed_on (route_from h.own r) random idle_time_holds (telegram_of l) spare k u at e two ∙ is_taken.net_data_holds;
+            net_data_holds = net_data_handed_on (route_from h.own r) random idle_time (telegram_of l) spare k u at e two ∙ is_taken.net_data_holds;
           }
 
       moved : Moved t l.table i time u came.table j at
@@ -249,17 +249,17 @@ module _ (h k : Head) (t u : List Record) (i j low time at random : ℕ) (idle_t
       moved =
           record {
             here = rw (others_unchanged.count (Send i low net) h t time d) link.here;
-            there = rw (others_unchanged.count (Received (route_from h.own r) random idle_time_holds (telegram_of l) spare) k u at e) link.there;
+            there = rw (others_unchanged.count (Received (route_from h.own r) random idle_time (telegram_of l) spare) k u at e) link.there;
             left = left_by (Send i low net) h t time d c ∙ (send_writes h t i time d low net c).left;
             taken_is = there.leaves;
           }
 
 pub sent_comes_up : SentComesUp called
 sent_comes_up n i j low net m bytes link ok =
-    let watch = in_watch (record_at n.table' j) m.received_at_holds ok.in_time in (
-      up n.head n.head' n.table n.table' i j low m.sent_at_holds m.received_at_holds m.random m.idle_time_holds net m.net m.buffer m.buffer' bytes ok.done (linked n i j link) watch ok.taken,
+    let watch = in_watch (record_at n.table' j) m.received_at ok.in_time in (
+      up n.head n.head' n.table n.table' i j low m.sent_at m.received_at m.random m.idle_time net m.net m.buffer m.buffer' bytes ok.done (linked n i j link) watch ok.taken,
       goes_on n i j (Send i low net) m link ok.done ok.taken
-          (moved n.head n.head' n.table n.table' i j low m.sent_at_holds m.received_at_holds m.random m.idle_time_holds net m.net m.buffer m.buffer' bytes ok.done (linked n i j link) watch ok.taken),
+          (moved n.head n.head' n.table n.table' i j low m.sent_at m.received_at m.random m.idle_time net m.net m.buffer m.buffer' bytes ok.done (linked n i j link) watch ok.taken),
     )
 
 -- What tick writes
@@ -271,7 +271,7 @@ due_sends r time p due =
     by_the_table.due r time p (open_in_time r time p due.in_time)
     (rw (ne_eqb r.declared 0 due.declares) (le-leb r.declared (2 * gap r.sent_at time) (let h = due.half in omega arith)))
 
-module _ (h k : Head) (t u : List Record) (i j time at random : ℕ) (idle_time_holds : IdleTime) (spare d e : List ℕ) where
+module _ (h k : Head) (t u : List Record) (i j time at random : ℕ) (idle_time : IdleTime) (spare d e : List ℕ) where
   abbrev rᵢ : Record
   rᵢ = record_at t i
 
@@ -297,38 +297,38 @@ module _ (h k : Head) (t u : List Record) (i j time at random : ℕ) (idle_time_
     is-takenᵢ = subst (λ (y : List ℕ). Taken endᵢ rᵢ.sending y kind.Idle [] []) (sym isᵢ) (idle_taken endᵢ rᵢ.sending d (idle endᵢ rᵢ.sending) idle_writes.written)
 
     abbrev cameᵢ : Left
-    cameᵢ = takes called (arrival lᵢ h rᵢ random idle_time_holds spare k u at e)
+    cameᵢ = takes called (arrival lᵢ h rᵢ random idle_time spare k u at e)
 
     module _ (link : Link h t i k u j) (watch : watch_over (record_at u j) at ≡ false) (got : Done cameᵢ) where
       idle_there : Does cameᵢ e j (taking_idle (record_at u j) at)
-      idle_there = taken_there lᵢ h k t u i j at random idle_time_holds spare e kind.Idle [] [] link watch is-takenᵢ got
+      idle_there = taken_there lᵢ h k t u i j at random idle_time spare e kind.Idle [] [] link watch is-takenᵢ got
 
       movedᵢ : Moved t lᵢ.table i time u cameᵢ.table j at
       unfolding taken
       movedᵢ =
           record {
             here = rw (others_unchanged.count (Tick i) h t time d) link.here;
-            there = rw (others_unchanged.count (Received (route_from h.own rᵢ) random idle_time_holds (telegram_of lᵢ) spare) k u at e) link.there;
+            there = rw (others_unchanged.count (Received (route_from h.own rᵢ) random idle_time (telegram_of lᵢ) spare) k u at e) link.there;
             left = left_by (Tick i) h t time d cᵢ ∙ idle_writes.left;
             taken_is = idle_there.leaves;
           }
 
-idle_taken_by : (n : Nodes) (i j : ℕ) (m : Moment) → Towards n i j → ticked (record_at n.table i) m.sent_at_holds ≡ SendIdle → Arrives called n i j (Tick i) m
+idle_taken_by : (n : Nodes) (i j : ℕ) (m : Moment) → Towards n i j → ticked (record_at n.table i) m.sent_at ≡ SendIdle → Arrives called n i j (Tick i) m
     → ((given called n (Tick i) m).outcome.answer.telegram ≡ 6) × (((happened (got called n i (Tick i) m).outcome.event).event ≡ 0) × GoesOn called n i j (Tick i) m)
 idle_taken_by n i j m link verdict ok =
-    let watch = in_watch (record_at n.table' j) m.received_at_holds ok.in_time in
+    let watch = in_watch (record_at n.table' j) m.received_at ok.in_time in
     let there =
-    idle_there n.head n.head' n.table n.table' i j m.sent_at_holds m.received_at_holds m.random m.idle_time_holds m.net m.buffer m.buffer' ok.done verdict (linked n i j link) watch ok.taken in (
-      (tick_does n.head n.table i m.sent_at_holds m.buffer SendIdle verdict ok.done).writes,
+    idle_there n.head n.head' n.table n.table' i j m.sent_at m.received_at m.random m.idle_time m.net m.buffer m.buffer' ok.done verdict (linked n i j link) watch ok.taken in (
+      (tick_does n.head n.table i m.sent_at m.buffer SendIdle verdict ok.done).writes,
       (
         ap (λ (y : Event). (happened y).event) there.says,
         goes_on n i j (Tick i) m link ok.done ok.taken
-            (movedᵢ n.head n.head' n.table n.table' i j m.sent_at_holds m.received_at_holds m.random m.idle_time_holds m.net m.buffer m.buffer' ok.done verdict (linked n i j link) watch ok.taken),
+            (movedᵢ n.head n.head' n.table n.table' i j m.sent_at m.received_at m.random m.idle_time m.net m.buffer m.buffer' ok.done verdict (linked n i j link) watch ok.taken),
       ),
     )
 
 pub idle_is_taken : IdleIsTaken called
-idle_is_taken n i j m link due ok = idle_taken_by n i j m link (due_sends (record_at n.table i) m.sent_at_holds link.open_to.open_here due) ok
+idle_is_taken n i j m link due ok = idle_taken_by n i j m link (due_sends (record_at n.table i) m.sent_at link.open_to.open_here due) ok
 
 -- What a closing writes
 
@@ -458,13 +458,13 @@ module _ (n : Nodes) (i j : ℕ) (c : Call) (m : Moment) (place : place_of c n.t
 
   abbrev Wrote-one : ℕ → Bool → List ℕ → Type 0
   Wrote-one reason last text =
-      Disconnects r₅ n.head.own m.buffer (step_in c n.head n.table m.sent_at_holds m.buffer) (step_out c r₅ n.head.own m.sent_at_holds m.buffer) reason last text
+      Disconnects r₅ n.head.own m.buffer (step_in c n.head n.table m.sent_at m.buffer) (step_out c r₅ n.head.own m.sent_at m.buffer) reason last text
 
-  module _ (reason : ℕ) (last : Bool) (text : List ℕ) (bytes : Bytes text) (g : Carried c n.head n.table m.sent_at_holds m.buffer) (s : Wrote-one reason last text) where
+  module _ (reason : ℕ) (last : Bool) (text : List ℕ) (bytes : Bytes text) (g : Carried c n.head n.table m.sent_at m.buffer) (s : Wrote-one reason last text) where
     closed_here : IsClosed (given called n c m) n.head n.table m.buffer i reason last text
     closed_here =
         subst (λ (y : ℕ). IsClosed (given called n c m) n.head n.table m.buffer y reason last text) place
-        (call_does c n.head n.table m.sent_at_holds m.buffer _ g s.does)
+        (call_does c n.head n.table m.sent_at m.buffer _ g s.does)
 
     -- the telegram is taken by the mirrored end
     is_taken₅ : Taken (end_of (record_at n.table i) n.head.own) (record_at n.table i).sending (telegram_of (given called n c m)) kind.Disconnect (pick last 0 1 ∷ reason ∷ []) text
@@ -478,8 +478,8 @@ module _ (n : Nodes) (i j : ℕ) (c : Call) (m : Moment) (place : place_of c n.t
     closes link ok =
         let q = record_at n.table' j in
         let there =
-        taken_there (given called n c m) n.head n.head' n.table n.table' i j m.received_at_holds m.random m.idle_time_holds m.net m.buffer' kind.Disconnect (pick last 0 1 ∷ reason ∷ []) text
-        (linked n i j link) (in_watch q m.received_at_holds ok.in_time) is_taken₅ ok.taken in
+        taken_there (given called n c m) n.head n.head' n.table n.table' i j m.received_at m.random m.idle_time m.net m.buffer' kind.Disconnect (pick last 0 1 ∷ reason ∷ []) text
+        (linked n i j link) (in_watch q m.received_at ok.in_time) is_taken₅ ok.taken in
         record {
           here = closed_here;
           there =
@@ -489,7 +489,7 @@ module _ (n : Nodes) (i j : ℕ) (c : Call) (m : Moment) (place : place_of c n.t
 
 pub close_closes : CloseCloses called
 close_closes n i j type reason text m bytes link ok =
-    let g = carried (Close i type reason text) n.head n.table m.sent_at_holds m.buffer ok.done in
+    let g = carried (Close i type reason text) n.head n.table m.sent_at m.buffer ok.done in
     closes n i j (Close i type reason text) m refl reason (eqb type 0) text bytes g
     (close_closes_step (record_at n.table i) n.head.own type reason text m.buffer g.number) link ok
 
@@ -500,62 +500,62 @@ unfolding tick_of tick_out
 tick_disconnects h t i time d reason last v g =
     let r = record_at t i in rw v (act_closes (tick_refusal r h.own d) reason last r h.own time 0 0 [] [] d (rw v at g.number))
 
-receipt_disconnects : (h : Head) (t : List Record) (w : Route) (random : ℕ) (idle_time_holds : IdleTime) (telegram net : List ℕ) (time : ℕ) (d : List ℕ) (reason : ℕ) (last : Bool)
-    → judged (record_at t (first_match w t)) h.own time telegram ≡ Closes reason last → Carried (Received w random idle_time_holds telegram net) h t time d
-    → Disconnects (record_at t (first_match w t)) h.own d (step_in (Received w random idle_time_holds telegram net) h t time d)
-    (step_out (Received w random idle_time_holds telegram net) (record_at t (first_match w t)) h.own time d) reason last []
+receipt_disconnects : (h : Head) (t : List Record) (w : Route) (random : ℕ) (idle_time : IdleTime) (telegram net : List ℕ) (time : ℕ) (d : List ℕ) (reason : ℕ) (last : Bool)
+    → judged (record_at t (first_match w t)) h.own time telegram ≡ Closes reason last → Carried (Received w random idle_time telegram net) h t time d
+    → Disconnects (record_at t (first_match w t)) h.own d (step_in (Received w random idle_time telegram net) h t time d)
+    (step_out (Received w random idle_time telegram net) (record_at t (first_match w t)) h.own time d) reason last []
 unfolding received_of received_out
-receipt_disconnects h t w random idle_time_holds telegram net time d reason last v g =
+receipt_disconnects h t w random idle_time telegram net time d reason last v g =
     let r = record_at t (first_match w t) in
-    rw v (act_closes (received_refusal r h.own idle_time_holds telegram net d) reason last r h.own time random (declared_by idle_time_holds) telegram net d (rw v at g.number))
+    rw v (act_closes (received_refusal r h.own idle_time telegram net d) reason last r h.own time random (declared_by idle_time) telegram net d (rw v at g.number))
 
 pub silence_closes : SilenceCloses called
 unfolding pick
 silence_closes n i j m link some over ok =
     let r = record_at n.table i in
-    let g = carried (Tick i) n.head n.table m.sent_at_holds m.buffer ok.done in
+    let g = carried (Tick i) n.head n.table m.sent_at m.buffer ok.done in
     let p = link.open_to.open_here in
-    let v = (by_the_table.silent r 0 m.sent_at_holds [] p (watch_ran_out r m.sent_at_holds p some over)).1 in
-    closes n i j (Tick i) m refl 0x05 false [] tt g (tick_disconnects n.head n.table i m.sent_at_holds m.buffer 0x05 false v g) link ok
+    let v = (by_the_table.silent r 0 m.sent_at [] p (watch_ran_out r m.sent_at p some over)).1 in
+    closes n i j (Tick i) m refl 0x05 false [] tt g (tick_disconnects n.head n.table i m.sent_at m.buffer 0x05 false v g) link ok
 
 pub incorrect_closes : IncorrectCloses called
-incorrect_closes n i j random idle_time_holds w telegram net m link place early fails ok =
-    let g = carried (Received w random idle_time_holds telegram net) n.head n.table m.sent_at_holds m.buffer ok.done in
-    let v : judged (record_at n.table (first_match w n.table)) n.head.own m.sent_at_holds telegram ≡ Closes 0x06 false =
-    subst (λ (y : ℕ). judged (record_at n.table y) n.head.own m.sent_at_holds telegram ≡ Closes 0x06 false) (sym place)
-    (failing_closes (record_at n.table i) n.head.own m.sent_at_holds telegram link.open_to.open_here early fails) in
-    closes n i j (Received w random idle_time_holds telegram net) m place 0x06 false [] tt g
-    (receipt_disconnects n.head n.table w random idle_time_holds telegram net m.sent_at_holds m.buffer 0x06 false v g) link ok
+incorrect_closes n i j random idle_time w telegram net m link place early fails ok =
+    let g = carried (Received w random idle_time telegram net) n.head n.table m.sent_at m.buffer ok.done in
+    let v : judged (record_at n.table (first_match w n.table)) n.head.own m.sent_at telegram ≡ Closes 0x06 false =
+    subst (λ (y : ℕ). judged (record_at n.table y) n.head.own m.sent_at telegram ≡ Closes 0x06 false) (sym place)
+    (failing_closes (record_at n.table i) n.head.own m.sent_at telegram link.open_to.open_here early fails) in
+    closes n i j (Received w random idle_time telegram net) m place 0x06 false [] tt g
+    (receipt_disconnects n.head n.table w random idle_time telegram net m.sent_at m.buffer 0x06 false v g) link ok
 
 -- What is written is taken, whatever it is
 
 module _ (n : Nodes) (i j : ℕ) (c : Call) (m : Moment) (place : place_of c n.table ≡ i) (text : Bytes (text_of c)) (link : Towards n i j) (ok : Arrives called n i j c m) where
-  g₀ : Carried c n.head n.table m.sent_at_holds m.buffer
-  g₀ = carried c n.head n.table m.sent_at_holds m.buffer ok.done
+  g₀ : Carried c n.head n.table m.sent_at m.buffer
+  g₀ = carried c n.head n.table m.sent_at m.buffer ok.done
 
   abbrev How : Type 0
-  How = Writing c i (record_at n.table (place_of c n.table)) n.head.own m.sent_at_holds m.buffer
+  How = Writing c i (record_at n.table (place_of c n.table)) n.head.own m.sent_at m.buffer
 
   how : ((given called n c m).outcome.answer.telegram ≡ 0 → ⊥) → How
   how some =
-      writing c n.table i (record_at n.table (place_of c n.table)) n.head.own m.sent_at_holds m.buffer place (rw place link.open_to.open_here) g₀.number
+      writing c n.table i (record_at n.table (place_of c n.table)) n.head.own m.sent_at m.buffer place (rw place link.open_to.open_here) g₀.number
       (λ z. some (ap (λ (y : Answer). y.telegram) g₀.answer ∙ z))
 
   taken_by : Bytes (net_of c) → How → IsTaken called n i j c m
   taken_by bytes (by_sending low net e) =
       let s = sent_comes_up n i j low net m (subst (λ (y : Call). Bytes (net_of y)) e bytes) link (rw e at ok) in
-      rw e (as_data low net refl (send_does n.head n.table i m.sent_at_holds m.buffer low net (rw e at ok.done)).writes s.0 s.1)
+      rw e (as_data low net refl (send_does n.head n.table i m.sent_at m.buffer low net (rw e at ok.done)).writes s.0 s.1)
   taken_by bytes (by_ticking e v) =
-      let s = idle_taken_by n i j m link (subst (λ (y : ℕ). ticked (record_at n.table y) m.sent_at_holds ≡ SendIdle) place v) (rw e at ok) in rw e (as_idle refl s.0 s.1.0 s.1.1)
+      let s = idle_taken_by n i j m link (subst (λ (y : ℕ). ticked (record_at n.table y) m.sent_at ≡ SendIdle) place v) (rw e at ok) in rw e (as_idle refl s.0 s.1.0 s.1.1)
   taken_by bytes (by_closing reason last s) =
       let both = closes n i j c m place reason last (text_of c) text g₀ s link ok in as_disconnect reason last both.here.writes both
 
   disconnected_by : (given called n c m).outcome.answer.telegram ≡ 5 → How → (reason : ℕ) × ((last : Bool) × ClosedWith called n i j c m reason last (text_of c))
   disconnected_by five (by_sending low net e) =
-      let y : ◌≡◌ {A = ℕ} 7 5 = sym (send_does n.head n.table i m.sent_at_holds m.buffer low net (rw e at ok.done)).writes ∙ (rw e at five) in absurd (omega arith)
+      let y : ◌≡◌ {A = ℕ} 7 5 = sym (send_does n.head n.table i m.sent_at m.buffer low net (rw e at ok.done)).writes ∙ (rw e at five) in absurd (omega arith)
   disconnected_by five (by_ticking e v) =
-      let idles = subst (λ (y : ℕ). ticked (record_at n.table y) m.sent_at_holds ≡ SendIdle) place v in
-      let y : ◌≡◌ {A = ℕ} 6 5 = sym (tick_does n.head n.table i m.sent_at_holds m.buffer SendIdle idles (rw e at ok.done)).writes ∙ (rw e at five) in absurd (omega arith)
+      let idles = subst (λ (y : ℕ). ticked (record_at n.table y) m.sent_at ≡ SendIdle) place v in
+      let y : ◌≡◌ {A = ℕ} 6 5 = sym (tick_does n.head n.table i m.sent_at m.buffer SendIdle idles (rw e at ok.done)).writes ∙ (rw e at five) in absurd (omega arith)
   disconnected_by five (by_closing reason last s) = (reason, (last, closes n i j c m place reason last (text_of c) text g₀ s link ok))
 
 pub written_is_taken : WrittenIsTaken called
@@ -571,7 +571,7 @@ disconnect_closes n i j c m place text link ok five =
 taken_done : (n : Nodes) (i j : ℕ) (c : Call) (m : Moment) (v : Kind) (vs net : List ℕ) → Towards n i j → NothingWrong n j m
     → Taken (end_of (record_at n.table i) n.head.own) (record_at n.table i).sending (telegram_of (given called n c m)) v vs net → Done (got called n i c m)
 taken_done n i j c m v vs net link ok y =
-    received_done n.head.own (record_at n.table i) n.head' n.table' j m.received_at_holds m.random m.idle_time_holds (telegram_of (given called n c m)) m.net m.buffer' ok.table_there ok.room_there
+    received_done n.head.own (record_at n.table i) n.head' n.table' j m.received_at m.random m.idle_time (telegram_of (given called n c m)) m.net m.buffer' ok.table_there ok.room_there
     ok.time_there (passed-check (mirrored (end_of (record_at n.table i) n.head.own)) (record_at n.table i).sending (telegram_of (given called n c m)) y.passes).on_bus_holds link.open_to.ends link.there
     (λ p. let z : ◌≡◌ {A = ℕ} 5 6 = sym link.open_to.open_there ∙ p in absurd (omega arith)) ok.lent
 
@@ -591,22 +591,22 @@ nothing_refused =
           let r = record_at n.table i in
           let p = link.open_to.open_here in
           let done =
-          done_by_holds (Send i low net) n.head n.table m.sent_at_holds m.buffer ok.table_here ok.room_here ok.time_here refl link.here (open_live r p) (eq-eqb r.phase 5 p) fits in
-          (done, taken_done n i j (Send i low net) m kind.Data [] net link ok (is_taken n.head n.head' n.table n.table' i j low m.sent_at_holds m.received_at_holds m.random m.idle_time_holds net m.net m.buffer m.buffer' bytes done));
+          done_by_holds (Send i low net) n.head n.table m.sent_at m.buffer ok.table_here ok.room_here ok.time_here refl link.here (open_live r p) (eq-eqb r.phase 5 p) fits in
+          (done, taken_done n i j (Send i low net) m kind.Data [] net link ok (is_taken n.head n.head' n.table n.table' i j low m.sent_at m.received_at m.random m.idle_time net m.net m.buffer m.buffer' bytes done));
       by_tick = λ n i j m link ok due.
           let r = record_at n.table i in
           let p = link.open_to.open_here in
-          let done = done_by_holds (Tick i) n.head n.table m.sent_at_holds m.buffer ok.table_here ok.room_here ok.time_here refl link.here (open_live r p) refl refl in (
+          let done = done_by_holds (Tick i) n.head n.table m.sent_at m.buffer ok.table_here ok.room_here ok.time_here refl link.here (open_live r p) refl refl in (
             done,
             taken_done n i j (Tick i) m kind.Idle [] [] link ok
-                (is-takenᵢ n.head n.head' n.table n.table' i j m.sent_at_holds m.received_at_holds m.random m.idle_time_holds m.net m.buffer m.buffer' done (due_sends r m.sent_at_holds p due)),
+                (is-takenᵢ n.head n.head' n.table n.table' i j m.sent_at m.received_at m.random m.idle_time m.net m.buffer m.buffer' done (due_sends r m.sent_at p due)),
           );
       by_close = λ n i j type reason text m bytes link ok fits.
           let r = record_at n.table i in
           let p = link.open_to.open_here in
           let done =
-          done_by_holds (Close i type reason text) n.head n.table m.sent_at_holds m.buffer ok.table_here ok.room_here ok.time_here refl link.here (open_live r p) (open_closes r p) fits in
-          let g = carried (Close i type reason text) n.head n.table m.sent_at_holds m.buffer done in
+          done_by_holds (Close i type reason text) n.head n.table m.sent_at m.buffer ok.table_here ok.room_here ok.time_here refl link.here (open_live r p) (open_closes r p) fits in
+          let g = carried (Close i type reason text) n.head n.table m.sent_at m.buffer done in
           let s = close_closes_step r n.head.own type reason text m.buffer g.number in
           (done, taken_done n i j (Close i type reason text) m kind.Disconnect _ text link ok (is_taken₅ n i j (Close i type reason text) m refl reason (eqb type 0) text bytes g s));
     }

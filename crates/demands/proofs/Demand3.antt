@@ -115,4 +115,4 @@ cards_exchanged_at_a_node =
     }
   where
     call : Receipt → Call
-    call x = Received x.route x.random x.idle_time_holds x.telegram x.net
+    call x = Received x.route x.random x.idle_time x.telegram x.net

@@ -225,7 +225,7 @@ module _ (link : Link) (first : Demand1 link) (others : OthersUnchanged link) (e
     q = record_for x
 
     abbrev c : Call
-    c = Received x.route x.random x.idle_time_holds x.telegram x.net
+    c = Received x.route x.random x.idle_time x.telegram x.net
 
     abbrev Takes : Type 0
     Takes = takes link x ≡ takes called x
@@ -237,7 +237,7 @@ module _ (link : Link) (first : Demand1 link) (others : OthersUnchanged link) (e
     passing? = passes_or_not (check_of (end_of q x.head.own) (expected_now q) x.telegram)
 
     looks : LooksAt c x.table (place_for x)
-    looks = receipt x.route x.random x.idle_time_holds x.telegram x.net refl refl
+    looks = receipt x.route x.random x.idle_time x.telegram x.net refl refl
 
     -- closed
     closed_takes : q.phase ≡ 1 → Takes
@@ -346,17 +346,17 @@ module _ (link : Link) (first : Demand1 link) (others : OthersUnchanged link) (e
 
   done_agrees : (c : Call) (h : Head) (t : List Record) (time : ℕ) (d : List ℕ) → Done (called c h t time d) → link c h t time d ≡ called c h t time d
   unfolding received_refusal tick_refusal
-  done_agrees (Open i random idle_time_holds net) h t time d done =
-      effect_agrees (Open i random idle_time_holds net) h t time d done i _ refl (ends.calls_of_ours.opens i random idle_time_holds net h t time d) (demand_2_one_end.calls_of_ours.opens i random idle_time_holds net h t time d)
+  done_agrees (Open i random idle_time net) h t time d done =
+      effect_agrees (Open i random idle_time net) h t time d done i _ refl (ends.calls_of_ours.opens i random idle_time net h t time d) (demand_2_one_end.calls_of_ours.opens i random idle_time net h t time d)
   done_agrees (Close i type reason text) h t time d done =
       effect_agrees (Close i type reason text) h t time d done i _ refl (ends.calls_of_ours.closes i type reason text h t time d) (demand_2_one_end.calls_of_ours.closes i type reason text h t time d)
   done_agrees (Send i low net) h t time d done =
       effect_agrees (Send i low net) h t time d done i _ refl (ends.calls_of_ours.sends i low net h t time d) (demand_2_one_end.calls_of_ours.sends i low net h t time d)
-  done_agrees (Received w random idle_time_holds telegram net) h t time d done =
-      let x : Receipt = record { route = w; random = random; idle_time_holds = idle_time_holds; telegram = telegram; net = net; head = h; table = t; time = time; buffer = d } in
-      let g = carried (Received w random idle_time_holds telegram net) h t time d done in
-      let n = answers.by_received (record_for x) h.own time random idle_time_holds telegram net d in
-      let p = live_phase (record_for x) h.own (received_refusal (record_for x) h.own idle_time_holds telegram net d) _ _ _ _ refl (sym n ∙ g.number) in
+  done_agrees (Received w random idle_time telegram net) h t time d done =
+      let x : Receipt = record { route = w; random = random; idle_time = idle_time; telegram = telegram; net = net; head = h; table = t; time = time; buffer = d } in
+      let g = carried (Received w random idle_time telegram net) h t time d done in
+      let n = answers.by_received (record_for x) h.own time random idle_time telegram net d in
+      let p = live_phase (record_for x) h.own (received_refusal (record_for x) h.own idle_time telegram net d) _ _ _ _ refl (sym n ∙ g.number) in
       receipt_agrees x done p.0 p.1
   done_agrees (Tick i) h t time d done =
       let g = carried (Tick i) h t time d done in

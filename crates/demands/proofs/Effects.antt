@@ -110,22 +110,22 @@ act_does n (Closes reason last) r own time random declared t net d z =
     from_writes (writes n (refusal (end_of r own) (length d) (disconnect_allowed (pick last 0 1) reason 0 (end_of r own).level)) _ d r (closed_by last r) 5 (event.Closed reason last) z)
 
 pub receipt_does : (x : Receipt) (v : Verdict) → judged (record_for x) x.head.own x.time x.telegram ≡ v
-    → ReceiptDoes called x (effect_of v (record_for x) x.head.own x.time x.random (declared_by x.idle_time_holds) x.telegram x.net)
+    → ReceiptDoes called x (effect_of v (record_for x) x.head.own x.time x.random (declared_by x.idle_time) x.telegram x.net)
 unfolding received_of received_out
 receipt_does x v f done =
     let r = record_for x in
-    let c : Call = Received x.route x.random x.idle_time_holds x.telegram x.net in
+    let c : Call = Received x.route x.random x.idle_time x.telegram x.net in
     let g = carried c x.head x.table x.time x.buffer done in
-    subst (λ (w : Verdict). Does (takes called x) x.buffer (place_for x) (effect_of w r x.head.own x.time x.random (declared_by x.idle_time_holds) x.telegram x.net)) f
+    subst (λ (w : Verdict). Does (takes called x) x.buffer (place_for x) (effect_of w r x.head.own x.time x.random (declared_by x.idle_time) x.telegram x.net)) f
     (call_does c x.head x.table x.time x.buffer _ g
-    (act_does (received_refusal r x.head.own x.idle_time_holds x.telegram x.net x.buffer) (judged r x.head.own x.time x.telegram) r x.head.own x.time x.random
-    (declared_by x.idle_time_holds) x.telegram x.net x.buffer g.number))
+    (act_does (received_refusal r x.head.own x.idle_time x.telegram x.net x.buffer) (judged r x.head.own x.time x.telegram) r x.head.own x.time x.random
+    (declared_by x.idle_time) x.telegram x.net x.buffer g.number))
 
 -- at a place that is known
 pub receipt_at : (x : Receipt) (j : ℕ) (v : Verdict) → place_for x ≡ j → judged (record_at x.table j) x.head.own x.time x.telegram ≡ v → Done (takes called x)
-    → Does (takes called x) x.buffer j (effect_of v (record_at x.table j) x.head.own x.time x.random (declared_by x.idle_time_holds) x.telegram x.net)
+    → Does (takes called x) x.buffer j (effect_of v (record_at x.table j) x.head.own x.time x.random (declared_by x.idle_time) x.telegram x.net)
 receipt_at x j v p f done =
-    subst (λ (y : ℕ). Does (takes called x) x.buffer y (effect_of v (record_at x.table y) x.head.own x.time x.random (declared_by x.idle_time_holds) x.telegram x.net)) p
+    subst (λ (y : ℕ). Does (takes called x) x.buffer y (effect_of v (record_at x.table y) x.head.own x.time x.random (declared_by x.idle_time) x.telegram x.net)) p
     (receipt_does x v (subst (λ (y : ℕ). judged (record_at x.table y) x.head.own x.time x.telegram ≡ v) (sym p) f) done)
 
 pub tick_does : (h : Head) (t : List Record) (i time : ℕ) (d : List ℕ) (v : Verdict) → ticked (record_at t i) time ≡ v → Done (called (Tick i) h t time d)
@@ -143,15 +143,15 @@ module _ (h : Head) (t : List Record) (i time : ℕ) (d : List ℕ) where
   abbrev r : Record
   r = record_at t i
 
-  pub open_does : (random : ℕ) (idle_time_holds : IdleTime) (net : List ℕ) → Done (called (Open i random idle_time_holds net) h t time d)
-      → Does (called (Open i random idle_time_holds net) h t time d) d i (asking r h.own time random (declared_by idle_time_holds) net)
+  pub open_does : (random : ℕ) (idle_time : IdleTime) (net : List ℕ) → Done (called (Open i random idle_time net) h t time d)
+      → Does (called (Open i random idle_time net) h t time d) d i (asking r h.own time random (declared_by idle_time) net)
   unfolding open_of open_out writes_request
-  open_does random idle_time_holds net done =
-      let g = carried (Open i random idle_time_holds net) h t time d done in
-      call_does (Open i random idle_time_holds net) h t time d _ g
+  open_does random idle_time net done =
+      let g = carried (Open i random idle_time net) h t time d done in
+      call_does (Open i random idle_time net) h t time d _ g
       (from_writes
-      (writes (open_refusal r h.own idle_time_holds net d) (refusal (end_of r h.own) (length d) (connect_allowed (declared_by idle_time_holds) (length net) (end_of r h.own).level))
-      (request (end_of r h.own) random (declared_by idle_time_holds) net) d r _ 1 event.Nothing g.number))
+      (writes (open_refusal r h.own idle_time net d) (refusal (end_of r h.own) (length d) (connect_allowed (declared_by idle_time) (length net) (end_of r h.own).level))
+      (request (end_of r h.own) random (declared_by idle_time) net) d r _ 1 event.Nothing g.number))
 
   pub send_writes : (low : ℕ) (net : List ℕ) → Carried (Send i low net) h t time d
       → Writes (data_telegram (end_of r h.own) r.sending low net) d (sent r time) 7 event.Nothing (refusal (end_of r h.own) (length d) (data_allowed low (length net) (end_of r h.own).level))
@@ -224,9 +224,9 @@ call_wrote c h t time d n m x q kind e is done =
 -- of a receipt, at a place that is known, by a verdict that writes
 pub receipt_wrote : (x : Receipt) (j : ℕ) (v : Verdict) (m : ℕ) (y : List ℕ) (q : Record) (kind : ℕ) (e : Event) → place_for x ≡ j
     → judged (record_at x.table j) x.head.own x.time x.telegram ≡ v
-    → act_of v (record_at x.table j) x.head.own x.time x.random (declared_by x.idle_time_holds) x.telegram x.net x.buffer
+    → act_of v (record_at x.table j) x.head.own x.time x.random (declared_by x.idle_time) x.telegram x.net x.buffer
     ≡ writing_step (answer_of (unless m y)) (record_at x.table j) q kind e → Done (takes called x) → unless m y ≡ wrote y
 unfolding received_of
 receipt_wrote x j v m y q kind e p f is done =
-    call_wrote (Received x.route x.random x.idle_time_holds x.telegram x.net) x.head x.table x.time x.buffer
-    (received_refusal (record_for x) x.head.own x.idle_time_holds x.telegram x.net x.buffer) m y q kind e (rw (p, f, is) refl) done
+    call_wrote (Received x.route x.random x.idle_time x.telegram x.net) x.head x.table x.time x.buffer
+    (received_refusal (record_for x) x.head.own x.idle_time x.telegram x.net x.buffer) m y q kind e (rw (p, f, is) refl) done

@@ -92,27 +92,27 @@ declares i time bytes known written =
       opening = λ place random net h t now d done.
           says _ d place _ time bytes (open_does h t place now d random i net done) known (request_says _ random (declared_by i) net ∙ ap (lowest_first 2) known ∙ written);
       confirming = λ x same closed good done.
-          let is : declared_by x.idle_time_holds ≡ time = ap declared_by same ∙ known in
+          let is : declared_by x.idle_time ≡ time = ap declared_by same ∙ known in
           says _ x.buffer (place_for x) _ time bytes (when_closed.confirms x closed good done) is
-          (confirm_says _ x.random (declared_by x.idle_time_holds) x.net ∙ ap (lowest_first 2) is ∙ written);
+          (confirm_says _ x.random (declared_by x.idle_time) x.net ∙ ap (lowest_first 2) is ∙ written);
       opening_allowed = λ most_is hundreds place random net h t now d e.
           too_long time (length net) (record_at t place).level (good_by time most_is hundreds)
           (ap (λ (y : ℕ). connect_allowed y (length net) (record_at t place).level) (sym known)
           ∙ five (asked (Open place random i net) h t now d) (sym (first_answered (Open place random i net) h t now d) ∙ e));
       receipt_allowed = λ most_is hundreds x same e.
-          let c = Received x.route x.random x.idle_time_holds x.telegram x.net in
+          let c = Received x.route x.random x.idle_time x.telegram x.net in
           too_long time (length x.net) (record_for x).level (good_by time most_is hundreds)
           (ap (λ (y : ℕ). connect_allowed y (length x.net) (record_for x).level) (sym (ap declared_by same ∙ known))
           ∙ five (asked c x.head x.table x.time x.buffer) (sym (first_answered c x.head x.table x.time x.buffer) ∙ e));
     }
 
 -- A record that is open and has these idle times and timers.
-keeps_1000 : (h : Head) (t : List Record) (i T U sent_at_holds taken_at : ℕ) → T ≡ 1000 → U ≡ 1000 → (record_at t i).phase ≡ 5 → Watching (record_at t i) T U sent_at_holds taken_at
-    → Keeps1000 called h t i sent_at_holds taken_at
-keeps_1000 h t i T U sent_at_holds taken_at T-is U-is phase w =
+keeps_1000 : (h : Head) (t : List Record) (i T U sent_at taken_at : ℕ) → T ≡ 1000 → U ≡ 1000 → (record_at t i).phase ≡ 5 → Watching (record_at t i) T U sent_at taken_at
+    → Keeps1000 called h t i sent_at taken_at
+keeps_1000 h t i T U sent_at taken_at T-is U-is phase w =
     let declared : (record_at t i).declared ≡ 1000 = w.declared_is ∙ T-is in
     let watched : (record_at t i).watched ≡ 1000 = w.watched_is ∙ U-is in
-    let sent : (record_at t i).sent_at ≡ sent_at_holds = w.sent_at_is in
+    let sent : (record_at t i).sent_at ≡ sent_at = w.sent_at_is in
     let taken : (record_at t i).taken_at ≡ taken_at = w.taken_at_is in
     record {
       early = λ time d soon in_time.
@@ -133,8 +133,8 @@ demand_2_idle_times =
       named = λ time. declares (naming time) time (lowest_first 2 time) (unnamed.named time) refl;
       neither = λ p first second s done.
           let both = demand_2_set_up p s done in
-          let T = none_named_lem p.first.idle_time_holds first in
-          let U = none_named_lem p.second.idle_time_holds second in
+          let T = none_named_lem p.first.idle_time first in
+          let U = none_named_lem p.second.idle_time second in
           record {
             opener = keeps_1000 _ _ p.i _ _ p.third.time p.fifth.time T U both.connected.towards.open_to.open_here both.opener_watches;
             responder = keeps_1000 _ _ p.j _ _ p.fourth.time p.fourth.time U T both.connected.towards.open_to.open_there both.responder_watches;

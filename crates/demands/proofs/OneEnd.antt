@@ -61,9 +61,9 @@ record RanOut (r : Record) (own time reason : ℕ) (last : Bool) : Type 0 where
 looking_closes : (c : Call) (h : Head) (t : List Record) (i time : ℕ) (d : List ℕ) (reason : ℕ) (last : Bool) → LooksAt c t i → RanOut (record_at t i) h.own time reason last
     → Done (called c h t time d) → IsClosed (called c h t time d) h t d i reason last []
 looking_closes c h t i time d reason last (tick e) v done = rw e (tick_does h t i time d (Closes reason last) v.on_tick_holds (rw e at done))
-looking_closes c h t i time d reason last (receipt w random idle_time_holds telegram net e place) v done =
+looking_closes c h t i time d reason last (receipt w random idle_time telegram net e place) v done =
     rw e
-    (receipt_at (record { route = w; random = random; idle_time_holds = idle_time_holds; telegram = telegram; net = net; head = h; table = t; time = time; buffer = d }) i (Closes reason last) place
+    (receipt_at (record { route = w; random = random; idle_time = idle_time; telegram = telegram; net = net; head = h; table = t; time = time; buffer = d }) i (Closes reason last) place
     (v.on_receipt telegram) (rw e at done))
 
 pub silence_closes_here : SilenceClosesHere called
@@ -216,7 +216,7 @@ confirm_awaited =
 -- An authentication or an acknowledgement awaited, in the phase p
 
 module _ (p n : ℕ) (k : Kind) (v : Verdict) (right : Receipt → Effect) (low : 2 ≤ p) (high : p ≤ 4)
-    (right_is : (x : Receipt) → effect_of v (record_for x) x.head.own x.time x.random (declared_by x.idle_time_holds) x.telegram x.net ≡ right x)
+    (right_is : (x : Receipt) → effect_of v (record_for x) x.head.own x.time x.random (declared_by x.idle_time) x.telegram x.net ≡ right x)
     (its-row : (r : Record) (t : List ℕ) → narrowed (ruled (row_of k) p) r t ≡ pick (good_number r n t) v (Closes 0x03 true))
     (other-rows : (y : Kind) (r : Record) (t : List ℕ) → known y ≡ true → (y ≡ k → ⊥) → (y ≡ kind.Disconnect → ⊥) → narrowed (ruled (row_of y) p) r t ≡ Closes 0x03 true) where
   on-timeₐ : (x : Receipt) → Awaiting (record_for x) x.time p → run_out (record_for x) x.time ≡ false
@@ -330,7 +330,7 @@ partner_closes_here x listens passes disconnects done =
 pub calls_of_ours : CallsOfOurs called
 calls_of_ours =
     record {
-      opens = λ i random idle_time_holds net h t time d done. open_does h t i time d random idle_time_holds net done;
+      opens = λ i random idle_time net h t time d done. open_does h t i time d random idle_time net done;
       sends = λ i low net h t time d done. send_does h t i time d low net done;
       closes = λ i type reason text h t time d done. close_does h t i time d type reason text done;
     }
@@ -370,9 +370,9 @@ record ByATelegram (x : ℕ) (r : Record) (own time : ℕ) (t : List ℕ) : Type
 
 -- of a call: by received alone
 abbrev Tells : ℕ → Call → Head → List Record → ℕ → Type 0
-Tells x (Received w random idle_time_holds telegram net) h t time =
+Tells x (Received w random idle_time telegram net) h t time =
     (1 ≤ (record_at t (first_match w t)).phase) × (((record_at t (first_match w t)).phase ≤ 5) × ByATelegram x (record_at t (first_match w t)) h.own time telegram)
-Tells x (Open place random idle_time_holds net) h t time = ⊥
+Tells x (Open place random idle_time net) h t time = ⊥
 Tells x (Close place type reason text) h t time = ⊥
 Tells x (Send place low net) h t time = ⊥
 Tells x (Tick place) h t time = ⊥
@@ -443,18 +443,18 @@ module _ (x : ℕ) (low : 1 ≤ x) (high : x ≤ 2) where
       let z : ◌≡◌ {A = ℕ} 3 x = ap (λ (y : Event). (happened y).event) (sym (close_does h t place time d type reason text done).says) ∙ o in omega arith
   done_tells (Send place command net) h t time d done o =
       let z : ◌≡◌ {A = ℕ} 0 x = ap (λ (y : Event). (happened y).event) (sym (send_does h t place time d command net done).says) ∙ o in omega arith
-  done_tells (Received w random idle_time_holds telegram net) h t time d done o =
+  done_tells (Received w random idle_time telegram net) h t time d done o =
       let r = record_at t (first_match w t) in
-      let g = carried (Received w random idle_time_holds telegram net) h t time d done in
-      let n = answers.by_received r h.own time random idle_time_holds telegram net d in
-      let p = live_phase r h.own (received_refusal r h.own idle_time_holds telegram net d) _ _ _ _ refl (sym n ∙ g.number) in
+      let g = carried (Received w random idle_time telegram net) h t time d done in
+      let n = answers.by_received r h.own time random idle_time telegram net d in
+      let p = live_phase r h.own (received_refusal r h.own idle_time telegram net d) _ _ _ _ refl (sym n ∙ g.number) in
       let says =
-      (receipt_does (record { route = w; random = random; idle_time_holds = idle_time_holds; telegram = telegram; net = net; head = h; table = t; time = time; buffer = d }) (judged r h.own time telegram) refl done).says in (
+      (receipt_does (record { route = w; random = random; idle_time = idle_time; telegram = telegram; net = net; head = h; table = t; time = time; buffer = d }) (judged r h.own time telegram) refl done).says in (
         p.0,
         (
           p.1,
           judged_tells r h.own time telegram p.0 p.1
-              (sym (event_of_holds (judged r h.own time telegram) r h.own time random (declared_by idle_time_holds) telegram net) ∙ ap (λ (y : Event). (happened y).event) (sym says) ∙ o),
+              (sym (event_of_holds (judged r h.own time telegram) r h.own time random (declared_by idle_time) telegram net) ∙ ap (λ (y : Event). (happened y).event) (sym says) ∙ o),
         ),
       )
   done_tells (Tick place) h t time d done o =
@@ -534,8 +534,8 @@ pub opens_only_by_an_answer : OpensOnlyByAnAnswer called
 opens_only_by_an_answer c h t time d e = by c (called_tells 1 (omega arith) (omega arith) c h t time d (ap (λ (y : Event). (happened y).event) e))
   where
     by : (c : Call) → Tells 1 c h t time → ByAnAnswer c h t time
-    by (Received w random idle_time_holds telegram net) (low, (high, b)) = opens_by (record_at t (first_match w t)) h.own time telegram low high b
-    by (Open place random idle_time_holds net) z = z
+    by (Received w random idle_time telegram net) (low, (high, b)) = opens_by (record_at t (first_match w t)) h.own time telegram low high b
+    by (Open place random idle_time net) z = z
     by (Close place type reason text) z = z
     by (Send place low net) z = z
     by (Tick place) z = z
@@ -566,7 +566,7 @@ pub data_only_from_a_good_telegram : DataOnlyFromAGoodTelegram called
 data_only_from_a_good_telegram c h t time d e = by c (called_tells 2 (omega arith) (omega arith) c h t time d e)
   where
     by : (c : Call) → Tells 2 c h t time → FromAGoodTelegram c h t time
-    by (Received w random idle_time_holds telegram net) (low, (high, b)) =
+    by (Received w random idle_time telegram net) (low, (high, b)) =
         let r = record_at t (first_match w t) in
         let k = kind_of_command (command_of telegram) in
         let z = data_cell k r.phase low high (narrowed_tells 2 (omega arith) (omega arith) (ruled (row_of k) r.phase) r telegram b.cell) in
@@ -576,7 +576,7 @@ data_only_from_a_good_telegram c h t time d e = by c (called_tells 2 (omega arit
           passes = subst (λ (y : ℕ). check_of (end_of r h.own) y telegram ≡ Passes) (expects r 5 z.1 (omega arith)) b.passes;
           kind = z.0;
         }
-    by (Open place random idle_time_holds net) z = z
+    by (Open place random idle_time net) z = z
     by (Close place type reason text) z = z
     by (Send place low net) z = z
     by (Tick place) z = z

@@ -97,10 +97,10 @@ fits_after c h t time d ms level g done until f =
 
 -- A telegram taken by a node with the record q at place j, by a verdict: what it does, what the node has then, and that the verdict's writer wrote.
 record Taking (x : Receipt) (j b : ℕ) (q : Record) (v : Verdict) : Type 0 where
-  does : Does (takes called x) x.buffer j (effect_of v q b x.time x.random (declared_by x.idle_time_holds) x.telegram x.net)
-  holds : Holds (takes called x).outcome.head (takes called x).table j b (effect_of v q b x.time x.random (declared_by x.idle_time_holds) x.telegram x.net).after
+  does : Does (takes called x) x.buffer j (effect_of v q b x.time x.random (declared_by x.idle_time) x.telegram x.net)
+  holds : Holds (takes called x).outcome.head (takes called x).table j b (effect_of v q b x.time x.random (declared_by x.idle_time) x.telegram x.net).after
   written : (n : ℕ) (y : List ℕ) (q' : Record) (kind : ℕ) (e : Event)
-      → act_of v q b x.time x.random (declared_by x.idle_time_holds) x.telegram x.net x.buffer ≡ writing_step (answer_of (unless n y)) q q' kind e → unless n y ≡ wrote y
+      → act_of v q b x.time x.random (declared_by x.idle_time) x.telegram x.net x.buffer ≡ writing_step (answer_of (unless n y)) q q' kind e → unless n y ≡ wrote y
 
 module _ (l : Left) (a : ℕ) (r : Record) (k : Head) (u : List Record) (g : Given) (j b : ℕ) (q : Record) (y : Holds k u j b q) (m : Mirror a r b q) where
   mirrored_there : Mirror a r k.own (record_at u j)
@@ -111,16 +111,16 @@ module _ (l : Left) (a : ℕ) (r : Record) (k : Head) (u : List Record) (g : Giv
   unfolding end_of
   is_done {n = n} good x live f =
       let level : (record_at u j).level ≡ r.level = ap (λ (e : End). e.level) mirrored_there in
-      received_done a r k u j g.time g.random g.idle_time_holds (telegram_of l) g.net g.out good f.room f.timely (passed (mirrored (end_of r a)) n (telegram_of l) x.passes).on_bus_holds mirrored_there y.there_is
+      received_done a r k u j g.time g.random g.idle_time (telegram_of l) g.net g.out good f.room f.timely (passed (mirrored (end_of r a)) n (telegram_of l) x.passes).on_bus_holds mirrored_there y.there_is
       (rw y.record_is live) (rw level f.allowed)
 
   taking : (v : Verdict) → judged q b g.time (telegram_of l) ≡ v → Done (takes called (arriving l a r k u g)) → Taking (arriving l a r k u g) j b q v
   taking v f done =
       let x : Receipt = arriving l a r k u g in
-      let c : Call = Received x.route g.random g.idle_time_holds (telegram_of l) g.net in
+      let c : Call = Received x.route g.random g.idle_time (telegram_of l) g.net in
       let found = mirror_place a r k u j (carried c k u g.time g.out done).good mirrored_there y.there_is in
       let f' : judged (record_at u j) k.own g.time (telegram_of l) ≡ v = rw (y.own_is, y.record_is) f in
-      let d : Does (takes called x) g.out j (effect_of v q b g.time g.random (declared_by g.idle_time_holds) (telegram_of l) g.net) =
+      let d : Does (takes called x) g.out j (effect_of v q b g.time g.random (declared_by g.idle_time) (telegram_of l) g.net) =
       rw (← y.own_is, ← y.record_is) (receipt_at x j v found f' done) in
       record {
         does = d;
@@ -130,7 +130,7 @@ module _ (l : Left) (a : ℕ) (r : Record) (k : Head) (u : List Record) (g : Giv
 
 -- and later, when the record has become r
 later : (x : Receipt) (j b : ℕ) (q : Record) (v : Verdict) (r : Record) (ms : List Made) → Taking x j b q v
-    → (effect_of v q b x.time x.random (declared_by x.idle_time_holds) x.telegram x.net).after ≡ r
+    → (effect_of v q b x.time x.random (declared_by x.idle_time) x.telegram x.net).after ≡ r
     → AllNothingTo called (takes called x).outcome.head (takes called x).table j ms → Holds (head_then called (takes called x) ms) (table_then called (takes called x) ms) j b r
 later x j b q v r ms t e z = meanwhile (takes called x).outcome.head (takes called x).table j b r ms (rw (← e) t.holds) z
 
@@ -175,10 +175,10 @@ module _ (p : Parties) where
 
   -- the idle times declared
   abbrev T : ℕ
-  T = declared_by p.first.idle_time_holds
+  T = declared_by p.first.idle_time
 
   abbrev U : ℕ
-  U = declared_by p.second.idle_time_holds
+  U = declared_by p.second.idle_time
 
   abbrev r₁ : Record
   r₁ = become (here p) 2 (next R) 0 T 0 p.first.time 0
@@ -204,10 +204,10 @@ module _ (p : Parties) (s : Undisturbed called p) where
 
   module _ (asked : Done (asks called p)) where
     abbrev c₁ : Call
-    c₁ = Open p.i (R p) p.first.idle_time_holds p.first.net
+    c₁ = Open p.i (R p) p.first.idle_time p.first.net
 
     first_does : Does (asks called p) p.first.out p.i (asking (here p) (a p) p.first.time (R p) (T p) p.first.net)
-    first_does = open_does p.head p.table p.i p.first.time p.first.out (R p) p.first.idle_time_holds p.first.net asked
+    first_does = open_does p.head p.table p.i p.first.time p.first.out (R p) p.first.idle_time p.first.net asked
 
     waits_for_confirm : Holds (head_then called (asks called p) p.while_asking) (table_then called (asks called p) p.while_asking) p.i (a p) (r₁ p)
     waits_for_confirm =
@@ -220,7 +220,7 @@ module _ (p : Parties) (s : Undisturbed called p) where
     request_there expected =
         rw (told (asks called p) p.first.out p.i _ first_does)
         (request_taken (end_of (here p) (a p)) (R p) (T p) expected p.first.net p.first.out _ s.random_here s.net_here
-        (call_wrote c₁ p.head p.table p.first.time p.first.out (open_refusal (here p) (a p) p.first.idle_time_holds p.first.net p.first.out)
+        (call_wrote c₁ p.head p.table p.first.time p.first.out (open_refusal (here p) (a p) p.first.idle_time p.first.net p.first.out)
         (refusal (end_of (here p) (a p)) (length p.first.out) (connect_allowed (T p) (length p.first.net) (end_of (here p) (a p)).level)) _ (r₁ p) 1 event.Nothing refl asked))
 
     confirms_it : judged (there p) (b p) p.second.time (telegram_of (asks called p)) ≡ Confirm
@@ -360,7 +360,7 @@ pub set_up_is_done : SetUpIsDone called
 unfolding become end_of
 set_up_is_done p s fit =
     let asked =
-    done_by_holds (Open p.i (R p) p.first.idle_time_holds p.first.net) p.head p.table p.first.time p.first.out fit.table_here fit.first.room fit.first.timely refl fit.place_here
+    done_by_holds (Open p.i (R p) p.first.idle_time p.first.net) p.head p.table p.first.time p.first.out fit.table_here fit.first.room fit.first.timely refl fit.place_here
     (λ e. let z = fit.closed_here in omega arith) (eq-eqb (here p).phase 1 fit.closed_here) fit.first.allowed in
     let good₁ = good_after (asks called p).outcome.head (asks called p).table p.while_asking (stays_accepted _ p.head p.table p.first.time p.first.out fit.table_here) in
     let confirmed =

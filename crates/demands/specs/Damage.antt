@@ -138,16 +138,16 @@ pub record TurnedAway (l : Left) (h : Head) (table : List Record) (d : List ℕ)
 
 abbrev pub DamageCloses : Type 0
 DamageCloses =
-    (w : Route) (random : ℕ) (idle_time_holds : IdleTime) (t u net : List ℕ) (h : Head) (table : List Record) (i time : ℕ) (d : List ℕ)
-    → ComesDamaged w h table i t u → Listens (record_at table i) time → Done (called (Received w random idle_time_holds u net) h table time d)
-    → TurnedAway (called (Received w random idle_time_holds u net) h table time d) h table d i u
+    (w : Route) (random : ℕ) (idle_time : IdleTime) (t u net : List ℕ) (h : Head) (table : List Record) (i time : ℕ) (d : List ℕ)
+    → ComesDamaged w h table i t u → Listens (record_at table i) time → Done (called (Received w random idle_time u net) h table time d)
+    → TurnedAway (called (Received w random idle_time u net) h table time d) h table d i u
 
 -- Where its disconnect arrives, the partner's end is closed with 06h too.
 abbrev pub DamageClosesBoth : Type 0
 DamageClosesBoth =
-    (n : Nodes) (i j random : ℕ) (idle_time_holds : IdleTime) (w : Route) (t u net : List ℕ) (m : Moment) → Towards n i j → ComesDamaged w n.head n.table i t u
-    → InTime (record_at n.table i) m.sent_at_holds → Arrives called n i j (Received w random idle_time_holds u net) m
-    → ClosedWith called n i j (Received w random idle_time_holds u net) m 0x06 false []
+    (n : Nodes) (i j random : ℕ) (idle_time : IdleTime) (w : Route) (t u net : List ℕ) (m : Moment) → Towards n i j → ComesDamaged w n.head n.table i t u
+    → InTime (record_at n.table i) m.sent_at → Arrives called n i j (Received w random idle_time u net) m
+    → ClosedWith called n i j (Received w random idle_time u net) m 0x06 false []
 
 -- The call says nothing, writes nothing, and leaves table and buffer as they were.
 pub record Dropped (l : Left) (table : List Record) (d : List ℕ) : Type 0 where
@@ -159,9 +159,9 @@ pub record Dropped (l : Left) (table : List Record) (d : List ℕ) : Type 0 wher
 -- So it is on a closed record (1), of every telegram: a damaged connect request sets up no connection.
 abbrev pub DamageIsDroppedWhenClosed : Type 0
 DamageIsDroppedWhenClosed =
-    (w : Route) (random : ℕ) (idle_time_holds : IdleTime) (t u net : List ℕ) (h : Head) (table : List Record) (i time : ℕ) (d : List ℕ)
-    → ComesDamaged w h table i t u → (record_at table i).phase ≡ 1 → Done (called (Received w random idle_time_holds u net) h table time d)
-    → Dropped (called (Received w random idle_time_holds u net) h table time d) table d
+    (w : Route) (random : ℕ) (idle_time : IdleTime) (t u net : List ℕ) (h : Head) (table : List Record) (i time : ℕ) (d : List ℕ)
+    → ComesDamaged w h table i t u → (record_at table i).phase ≡ 1 → Done (called (Received w random idle_time u net) h table time d)
+    → Dropped (called (Received w random idle_time u net) h table time d) table d
 
 -- All of it. The first four are the request; the others are what a user may ask next.
 pub record DamageOnTheCable : Type 0 where

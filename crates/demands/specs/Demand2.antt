@@ -32,8 +32,8 @@ pub record ComesUp (low : ℕ) (net telegram : List ℕ) (e : Event) : Type 0 wh
 pub record GoesOn (link : Link) (n : Nodes) (i j : ℕ) (c : Call) (m : Moment) : Type 0 where
   pub towards : Towards (after link n i c m) i j
   pub back : Towards (turned n) j i → Towards (turned (after link n i c m)) j i
-  pub sender_watches : Watching (record_at (sent link n c m).table i) (record_at n.table i).declared (record_at n.table i).watched m.sent_at_holds (record_at n.table i).taken_at
-  pub partner_watches : Watching (record_at (got link n i c m).table j) (record_at n.table' j).declared (record_at n.table' j).watched (record_at n.table' j).sent_at m.received_at_holds
+  pub sender_watches : Watching (record_at (sent link n c m).table i) (record_at n.table i).declared (record_at n.table i).watched m.sent_at (record_at n.table i).taken_at
+  pub partner_watches : Watching (record_at (got link n i c m).table j) (record_at n.table' j).declared (record_at n.table' j).watched (record_at n.table' j).sent_at m.received_at
 
 -- What send writes comes up as data with the same command and the same net bytes.
 abbrev pub SentComesUp : Link → Type 0
@@ -44,7 +44,7 @@ SentComesUp link =
 -- Where an idle telegram is due tick writes one (6); it is taken, and says nothing to the layer above.
 abbrev pub IdleIsTaken : Link → Type 0
 IdleIsTaken link =
-    (n : Nodes) (i j : ℕ) (m : Moment) → Towards n i j → Due (record_at n.table i) m.sent_at_holds → Arrives link n i j (Tick i) m
+    (n : Nodes) (i j : ℕ) (m : Moment) → Towards n i j → Due (record_at n.table i) m.sent_at → Arrives link n i j (Tick i) m
     → ((sent link n (Tick i) m).outcome.answer.telegram ≡ 6)
     × (((happened (got link n i (Tick i) m).outcome.event).event ≡ 0) × GoesOn link n i j (Tick i) m)
 
@@ -71,17 +71,17 @@ CloseCloses link =
 abbrev pub SilenceCloses : Link → Type 0
 SilenceCloses link =
     (n : Nodes) (i j : ℕ) (m : Moment) → Towards n i j → ((record_at n.table i).watched ≡ 0 → ⊥)
-    → (record_at n.table i).taken_at + (record_at n.table i).watched < m.sent_at_holds → Arrives link n i j (Tick i) m
+    → (record_at n.table i).taken_at + (record_at n.table i).watched < m.sent_at → Arrives link n i j (Tick i) m
     → ClosedWith link n i j (Tick i) m 0x05 false []
 
 -- Received by itself closes both where a telegram for the record comes in time and doesn't pass the check, with 06h and not finally.
 abbrev pub IncorrectCloses : Link → Type 0
 IncorrectCloses link =
-    (n : Nodes) (i j random : ℕ) (idle_time_holds : IdleTime) (w : Route) (telegram net : List ℕ) (m : Moment) → Towards n i j → first_match w n.table ≡ i
-    → InTime (record_at n.table i) m.sent_at_holds
+    (n : Nodes) (i j random : ℕ) (idle_time : IdleTime) (w : Route) (telegram net : List ℕ) (m : Moment) → Towards n i j → first_match w n.table ≡ i
+    → InTime (record_at n.table i) m.sent_at
     → (check_of (end_of (record_at n.table i) n.head.own) (record_at n.table i).expected telegram ≡ Passes → ⊥)
-    → Arrives link n i j (Received w random idle_time_holds telegram net) m
-    → ClosedWith link n i j (Received w random idle_time_holds telegram net) m 0x06 false []
+    → Arrives link n i j (Received w random idle_time telegram net) m
+    → ClosedWith link n i j (Received w random idle_time telegram net) m 0x06 false []
 
 -- The text that a closing carries, and the net data of a sending: what must be bytes.
 abbrev pub text_of : Call → List ℕ
@@ -123,7 +123,7 @@ WrittenIsTaken link =
 pub record NothingRefused (link : Link) : Type 0 where
   pub by_send : (n : Nodes) (i j low : ℕ) (net : List ℕ) (m : Moment) → Bytes net → Towards n i j → NothingWrong n j m
       → data_allowed low (length net) (record_at n.table i).level ≡ true → Done (sent link n (Send i low net) m) × Done (got link n i (Send i low net) m)
-  pub by_tick : (n : Nodes) (i j : ℕ) (m : Moment) → Towards n i j → NothingWrong n j m → Due (record_at n.table i) m.sent_at_holds
+  pub by_tick : (n : Nodes) (i j : ℕ) (m : Moment) → Towards n i j → NothingWrong n j m → Due (record_at n.table i) m.sent_at
       → Done (sent link n (Tick i) m) × Done (got link n i (Tick i) m)
   pub by_close : (n : Nodes) (i j type reason : ℕ) (text : List ℕ) (m : Moment) → Bytes text → Towards n i j → NothingWrong n j m
       → disconnect_allowed type reason (length text) (record_at n.table i).level ≡ true

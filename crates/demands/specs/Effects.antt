@@ -119,7 +119,7 @@ closed_by_partner r reason last = record { event = Closed reason last; after = c
 pub record Receipt : Type 0 where
   pub route : Route
   pub random : ℕ
-  pub idle_time_holds : IdleTime
+  pub idle_time : IdleTime
   pub telegram : List ℕ
   pub net : List ℕ
   pub head : Head
@@ -128,7 +128,7 @@ pub record Receipt : Type 0 where
   pub buffer : List ℕ
 
 abbrev pub takes : Link → Receipt → Left
-takes link x = link (Received x.route x.random x.idle_time_holds x.telegram x.net) x.head x.table x.time x.buffer
+takes link x = link (Received x.route x.random x.idle_time x.telegram x.net) x.head x.table x.time x.buffer
 
 -- The record that it is for, and where that stands.
 abbrev pub place_for : Receipt → ℕ

@@ -50,7 +50,7 @@ then_on link n i j (meanwhile w m) = facing w (alone link (facing w n) m)
 -- What each needs: a message has bytes and arrives; an idle telegram is due and arrives.
 abbrev pub GoesWell : Link → Nodes → ℕ → ℕ → Exchange → Type 0
 GoesWell link n i j (message w low net m) = Bytes net × Arrives link (facing w n) (caller w i j) (partner w i j) (Send (caller w i j) low net) m
-GoesWell link n i j (idle w m) = Due (record_at (facing w n).table (caller w i j)) m.sent_at_holds × Arrives link (facing w n) (caller w i j) (partner w i j) (Tick (caller w i j)) m
+GoesWell link n i j (idle w m) = Due (record_at (facing w n).table (caller w i j)) m.sent_at × Arrives link (facing w n) (caller w i j) (partner w i j) (Tick (caller w i j)) m
 GoesWell link n i j (meanwhile w m) = NothingTo link (facing w n).head (facing w n).table (caller w i j) m
 
 abbrev pub AllGoWell : Link → Nodes → ℕ → ℕ → List Exchange → Type 0

@@ -28,18 +28,18 @@ pub record Carries (l : Left) (place time : ℕ) (bytes : List ℕ) : Type 0 whe
 pub record Declares (link : Link) (i : IdleTime) (time : ℕ) (bytes : List ℕ) : Type 0 where
   pub opening : (place random : ℕ) (net : List ℕ) (h : Head) (t : List Record) (now : ℕ) (d : List ℕ) → Done (link (Open place random i net) h t now d)
       → Carries (link (Open place random i net) h t now d) place time bytes
-  pub confirming : (x : Receipt) → x.idle_time_holds ≡ i → (record_for x).phase ≡ 1 → GoodRequest x → Done (takes link x) → Carries (takes link x) (place_for x) time bytes
+  pub confirming : (x : Receipt) → x.idle_time ≡ i → (record_for x).phase ≡ 1 → GoodRequest x → Done (takes link x) → Carries (takes link x) (place_for x) time bytes
   pub opening_allowed : time ≤ 65500 → time % 100 ≡ 0 → (place random : ℕ) (net : List ℕ) (h : Head) (t : List Record) (now : ℕ) (d : List ℕ)
       → (link (Open place random i net) h t now d).outcome.answer.number ≡ 5 → most Request (record_at t place).level < length net
-  pub receipt_allowed : time ≤ 65500 → time % 100 ≡ 0 → (x : Receipt) → x.idle_time_holds ≡ i → (takes link x).outcome.answer.number ≡ 5
+  pub receipt_allowed : time ≤ 65500 → time % 100 ≡ 0 → (x : Receipt) → x.idle_time ≡ i → (takes link x).outcome.answer.number ≡ 5
       → most Request (record_for x).level < length x.net
 
 -- What ticks do with an open record at a place that last sent and last took a telegram at these times, where both ends declare 1,000: an idle telegram is due 500
 -- after the last sending (5.2.6.5; half of the time is ours) and not before, and the partner's silence is borne for 1,000 (5.2.6.3, 5.2.6.4) and no longer.
-pub record Keeps1000 (link : Link) (h : Head) (t : List Record) (i sent_at_holds taken_at : ℕ) : Type 0 where
-  pub early : (time : ℕ) (d : List ℕ) → time < sent_at_holds + 500 → time ≤ taken_at + 1000 → Done (link (Tick i) h t time d)
+pub record Keeps1000 (link : Link) (h : Head) (t : List Record) (i sent_at taken_at : ℕ) : Type 0 where
+  pub early : (time : ℕ) (d : List ℕ) → time < sent_at + 500 → time ≤ taken_at + 1000 → Done (link (Tick i) h t time d)
       → Does (link (Tick i) h t time d) d i (nothing (record_at t i))
-  pub due : (time : ℕ) (d : List ℕ) → sent_at_holds + 500 ≤ time → time ≤ taken_at + 1000 → Done (link (Tick i) h t time d)
+  pub due : (time : ℕ) (d : List ℕ) → sent_at + 500 ≤ time → time ≤ taken_at + 1000 → Done (link (Tick i) h t time d)
       → Does (link (Tick i) h t time d) d i (sending_idle (record_at t i) h.own time)
   pub silence : (time : ℕ) (d : List ℕ) → taken_at + 1000 < time → Done (link (Tick i) h t time d) → IsClosed (link (Tick i) h t time d) h t d i 0x05 false []
 
@@ -53,4 +53,4 @@ pub record BothKeep1000 (link : Link) (p : Parties) : Type 0 where
 pub record Demand2IdleTimes (link : Link) : Type 0 where
   pub none : (beside : ℕ) → Declares link (none_named beside) 1000 (0xE8 ∷ 0x03 ∷ [])
   pub named : (time : ℕ) → Declares link (naming time) time (lowest_first 2 time)
-  pub neither : (p : Parties) → p.first.idle_time_holds.named ≡ false → p.second.idle_time_holds.named ≡ false → Undisturbed link p → AllDone link p → BothKeep1000 link p
+  pub neither : (p : Parties) → p.first.idle_time.named ≡ false → p.second.idle_time.named ≡ false → Undisturbed link p → AllDone link p → BothKeep1000 link p

@@ -33,7 +33,7 @@ use Rattle.demands.specs.Demand2.{IsClosed}
 -- A call that looks at the timers of the record at place i: a tick of it, or any telegram for it.
 pub data LooksAt (c : Call) (t : List Record) (i : ℕ) : Type 0 where
   tick : c ≡ Tick i → LooksAt c t i
-  receipt : (w : Route) (random : ℕ) (idle_time_holds : IdleTime) (telegram net : List ℕ) → c ≡ Received w random idle_time_holds telegram net → first_match w t ≡ i → LooksAt c t i
+  receipt : (w : Route) (random : ℕ) (idle_time : IdleTime) (telegram net : List ℕ) → c ≡ Received w random idle_time telegram net → first_match w t ≡ i → LooksAt c t i
 
 -- More than the watched time after the last telegram was taken, such a call closes an open connection with 05h, not finally (5.2.5.7.4,
 -- 5.2.6.3, 5.2.6.4).
@@ -77,7 +77,7 @@ pub record GoodRequest (x : Receipt) : Type 0 where
 -- Such a one is confirmed. Whatever else comes is dropped: an incorrect telegram, another one, a request of a version that we don't speak.
 pub record WhenClosed (link : Link) : Type 0 where
   pub confirms : (x : Receipt) → (record_for x).phase ≡ 1 → GoodRequest x
-      → ReceiptDoes link x (confirming (record_for x) x.head.own x.time x.random (declared_by x.idle_time_holds) x.telegram x.net)
+      → ReceiptDoes link x (confirming (record_for x) x.head.own x.time x.random (declared_by x.idle_time) x.telegram x.net)
   pub drops : (x : Receipt) → (record_for x).phase ≡ 1 → (GoodRequest x → ⊥) → ReceiptDoes link x (nothing (record_for x))
 
 -- Telegrams while an answer is awaited (2 to 4)
@@ -151,8 +151,8 @@ PartnerClosesHere link =
 
 -- Opening writes a request, sending a data telegram, and closing a disconnect with this reason and text, final where the type is 0.
 pub record CallsOfOurs (link : Link) : Type 0 where
-  pub opens : (i random : ℕ) (idle_time_holds : IdleTime) (net : List ℕ) (h : Head) (t : List Record) (time : ℕ) (d : List ℕ) → Done (link (Open i random idle_time_holds net) h t time d)
-      → Does (link (Open i random idle_time_holds net) h t time d) d i (asking (record_at t i) h.own time random (declared_by idle_time_holds) net)
+  pub opens : (i random : ℕ) (idle_time : IdleTime) (net : List ℕ) (h : Head) (t : List Record) (time : ℕ) (d : List ℕ) → Done (link (Open i random idle_time net) h t time d)
+      → Does (link (Open i random idle_time net) h t time d) d i (asking (record_at t i) h.own time random (declared_by idle_time) net)
   pub sends : (i low : ℕ) (net : List ℕ) (h : Head) (t : List Record) (time : ℕ) (d : List ℕ) → Done (link (Send i low net) h t time d)
       → Does (link (Send i low net) h t time d) d i (sending_data (record_at t i) h.own time low net)
   pub closes : (i type reason : ℕ) (text : List ℕ) (h : Head) (t : List Record) (time : ℕ) (d : List ℕ) → Done (link (Close i type reason text) h t time d)
@@ -172,9 +172,9 @@ pub record AnswersUs (r : Record) (own time : ℕ) (telegram : List ℕ) (phase 
 -- No call but received opens a connection, and it does so only on the authentication that the responder awaits (3), or on the acknowledgement that the opener
 -- awaits (4).
 abbrev pub ByAnAnswer : Call → Head → List Record → ℕ → Type 0
-ByAnAnswer (Received w random idle_time_holds telegram net) h t time =
+ByAnAnswer (Received w random idle_time telegram net) h t time =
     AnswersUs (record_at t (first_match w t)) h.own time telegram 3 1 Authentication ⊎ AnswersUs (record_at t (first_match w t)) h.own time telegram 4 2 Acknowledgement
-ByAnAnswer (Open place random idle_time_holds net) h t time = ⊥
+ByAnAnswer (Open place random idle_time net) h t time = ⊥
 ByAnAnswer (Close place type reason text) h t time = ⊥
 ByAnAnswer (Send place low net) h t time = ⊥
 ByAnAnswer (Tick place) h t time = ⊥
@@ -191,8 +191,8 @@ pub record GoodData (w : Route) (h : Head) (t : List Record) (time : ℕ) (teleg
 
 -- No call but received hands up data (2), and it does so only from such a one; which net bytes these are, `NetDataHandedOn` says.
 abbrev pub FromAGoodTelegram : Call → Head → List Record → ℕ → Type 0
-FromAGoodTelegram (Received w random idle_time_holds telegram net) h t time = GoodData w h t time telegram
-FromAGoodTelegram (Open place random idle_time_holds net) h t time = ⊥
+FromAGoodTelegram (Received w random idle_time telegram net) h t time = GoodData w h t time telegram
+FromAGoodTelegram (Open place random idle_time net) h t time = ⊥
 FromAGoodTelegram (Close place type reason text) h t time = ⊥
 FromAGoodTelegram (Send place low net) h t time = ⊥
 FromAGoodTelegram (Tick place) h t time = ⊥

@@ -59,30 +59,30 @@ pub record Connected (n : Nodes) (i j : ℕ) : Type 0 where
   pub back : Towards (turned n) j i
 
 -- The idle times and timers of a record: what it declares and watches for, and when it last sent and took a telegram.
-pub record Watching (r : Record) (declares watches sent_at_holds taken_at : ℕ) : Type 0 where
+pub record Watching (r : Record) (declares watches sent_at taken_at : ℕ) : Type 0 where
   pub declared_is : r.declared ≡ declares
   pub watched_is : r.watched ≡ watches
-  pub sent_at_is : r.sent_at ≡ sent_at_holds
+  pub sent_at_is : r.sent_at ≡ sent_at
   pub taken_at_is : r.taken_at ≡ taken_at
 
 -- The circumstances of a telegram: when it is sent and when it is received, the buffers of both ends, and what the receiving call lends for a possible confirm.
 pub record Moment : Type 0 where
-  pub sent_at_holds : ℕ
-  pub received_at_holds : ℕ
+  pub sent_at : ℕ
+  pub received_at : ℕ
   pub buffer : List ℕ
   pub buffer' : List ℕ
   pub random : ℕ
-  pub idle_time_holds : IdleTime
+  pub idle_time : IdleTime
   pub net : List ℕ
 
 -- A call of the sender.
 abbrev pub sent : Link → Nodes → Call → Moment → Left
-sent link n c m = link c n.head n.table m.sent_at_holds m.buffer
+sent link n c m = link c n.head n.table m.sent_at m.buffer
 
 -- The call with which the partner takes what it wrote for the record at place i: the telegram, under the address and SAPs that it was sent under.
 abbrev pub got : Link → Nodes → ℕ → Call → Moment → Left
 got link n i c m =
-    link (Received (route_from n.head.own (record_at n.table i)) m.random m.idle_time_holds (telegram_of (sent link n c m)) m.net) n.head' n.table' m.received_at_holds m.buffer'
+    link (Received (route_from n.head.own (record_at n.table i)) m.random m.idle_time (telegram_of (sent link n c m)) m.net) n.head' n.table' m.received_at m.buffer'
 
 -- The nodes afterwards.
 abbrev pub after : Link → Nodes → ℕ → Call → Moment → Nodes
@@ -138,15 +138,15 @@ AllNothingTo link h t i (m ∷ ms) = NothingTo link h t i m × AllNothingTo link
 pub record Arrives (link : Link) (n : Nodes) (i j : ℕ) (c : Call) (m : Moment) : Type 0 where
   pub done : Done (sent link n c m)
   pub taken : Done (got link n i c m)
-  pub in_time : InTime (record_at n.table' j) m.received_at_holds
+  pub in_time : InTime (record_at n.table' j) m.received_at
 
 -- Nothing stands in the way of the two calls: both tables are accepted, both buffers have room, neither clock goes back, and what is lent for a possible confirm
 -- is allowed.
 pub record NothingWrong (n : Nodes) (j : ℕ) (m : Moment) : Type 0 where
   pub table_here : accepted n.head n.table ≡ true
   pub room_here : 244 ≤ length m.buffer
-  pub time_here : n.head.latest ≤ m.sent_at_holds
+  pub time_here : n.head.latest ≤ m.sent_at
   pub table_there : accepted n.head' n.table' ≡ true
   pub room_there : 244 ≤ length m.buffer'
-  pub time_there : n.head'.latest ≤ m.received_at_holds
-  pub lent : connect_allowed (declared_by m.idle_time_holds) (length m.net) (record_at n.table' j).level ≡ true
+  pub time_there : n.head'.latest ≤ m.received_at
+  pub lent : connect_allowed (declared_by m.idle_time) (length m.net) (record_at n.table' j).level ≡ true

@@ -21,7 +21,7 @@ pub record Given : Type 0 where
   pub time : ℕ
   pub out : List ℕ
   pub random : ℕ
-  pub idle_time_holds : IdleTime
+  pub idle_time : IdleTime
   pub net : List ℕ
 
 -- The opener, its record at place i; the responder, its record at place j; and what each of the five calls is given.
@@ -55,7 +55,7 @@ arriving l own r h t g =
     record {
       route = route_from own r;
       random = g.random;
-      idle_time_holds = g.idle_time_holds;
+      idle_time = g.idle_time;
       telegram = telegram_of l;
       net = g.net;
       head = h;
@@ -73,7 +73,7 @@ table_then link l ms = table_after link l.outcome.head l.table ms
 
 -- The five calls: the opener asks, the responder confirms, the opener authenticates, the responder acknowledges and is open, the opener is open.
 abbrev pub asks : Link → Parties → Left
-asks link p = link (Open p.i p.first.random p.first.idle_time_holds p.first.net) p.head p.table p.first.time p.first.out
+asks link p = link (Open p.i p.first.random p.first.idle_time p.first.net) p.head p.table p.first.time p.first.out
 
 abbrev pub confirms : Link → Parties → Left
 confirms link p = takes link (arriving (asks link p) p.head.own (here p) p.head' p.table' p.second)
@@ -130,8 +130,8 @@ pub record BothOpen (link : Link) (p : Parties) : Type 0 where
   pub opener : (opens link p).outcome.event ≡ Opened
   pub responder : (acknowledges link p).outcome.event ≡ Opened
   pub connected : Connected (set_up link p) p.i p.j
-  pub opener_watches : Watching (record_at (opens link p).table p.i) (declared_by p.first.idle_time_holds) (declared_by p.second.idle_time_holds) p.third.time p.fifth.time
-  pub responder_watches : Watching (record_at (acknowledges link p).table p.j) (declared_by p.second.idle_time_holds) (declared_by p.first.idle_time_holds) p.fourth.time p.fourth.time
+  pub opener_watches : Watching (record_at (opens link p).table p.i) (declared_by p.first.idle_time) (declared_by p.second.idle_time) p.third.time p.fifth.time
+  pub responder_watches : Watching (record_at (acknowledges link p).table p.j) (declared_by p.second.idle_time) (declared_by p.first.idle_time) p.fourth.time p.fourth.time
 
 abbrev pub Demand2SetUp : Link → Type 0
 Demand2SetUp link = (p : Parties) → Undisturbed link p → AllDone link p → BothOpen link p
@@ -140,7 +140,7 @@ Demand2SetUp link = (p : Parties) → Undisturbed link p → AllDone link p → 
 pub record Fits (earlier level : ℕ) (g : Given) : Type 0 where
   pub room : 244 ≤ length g.out
   pub timely : earlier ≤ g.time
-  pub allowed : connect_allowed (declared_by g.idle_time_holds) (length g.net) level ≡ true
+  pub allowed : connect_allowed (declared_by g.idle_time) (length g.net) level ≡ true
 
 -- None of these calls is later than a time.
 abbrev pub Until : ℕ → List Made → Type 0

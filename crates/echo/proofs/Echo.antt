@@ -32,7 +32,7 @@ pub record Change (n : ℕ) (ds : List ℕ) : Type 0 where
   pub bytes : Bytes ds
   pub twelve : length ds ≡ 12
   pub number : get_or ds 0 0 ≡ get_or ds 2 0
-  pub idle_time_holds : get_or ds 6 0 % 4 ≡ 0
+  pub idle_time : get_or ds 6 0 % 4 ≡ 0
   pub start : ℕ
   pub early : start ≤ 5
   pub before : (k : ℕ) → k < start → get_or ds k 0 ≡ 0
@@ -197,7 +197,7 @@ module _ (w g : ℕ) (good : Generator w g) where
           (sym (bytes_of_number n changed many changed_bytes) ∙ ap (bytes_of n) equal))
 
       kept : parts places (echoed ds) ≡ 0
-      kept = rw (c.number, c.idle_time_holds) (simp xor_twice)
+      kept = rw (c.number, c.idle_time) (simp xor_twice)
 
       none : number lead ≡ 0
       none =

@@ -80,12 +80,12 @@ example_connected taken' level =
 abbrev pub example_moment : ℕ → Moment
 example_moment time =
     record {
-      sent_at_holds = time;
-      received_at_holds = time + 50;
+      sent_at = time;
+      received_at = time + 50;
       buffer = replicate 244 0;
       buffer' = replicate 244 0;
       random = 0;
-      idle_time_holds = none_named 0;
+      idle_time = none_named 0;
       net = [];
     }
 

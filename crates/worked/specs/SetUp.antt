@@ -29,7 +29,7 @@ use Rattle.demands.specs.SetUp.{Given, Parties, table_then, asks, Undisturbed, A
 
 -- Worked example: what a call is given at this time, with this random number and these net data, and no idle time named.
 abbrev pub example_given : ℕ → ℕ → List ℕ → Given
-example_given time random net = record { time = time; out = replicate 244 0; random = random; idle_time_holds = none_named 0; net = net }
+example_given time random net = record { time = time; out = replicate 244 0; random = random; idle_time = none_named 0; net = net }
 
 -- A call of a node with a buffer that has room.
 abbrev pub example_made : Call → ℕ → Made

@@ -70,7 +70,7 @@ comes l i =
     record {
       route = record { sender = 9; destination_sap = 4; source_sap = 3 };
       random = 0;
-      idle_time_holds = i;
+      idle_time = i;
       telegram = asking l;
       net = [];
       head = head;

@@ -180,7 +180,7 @@ abbrev room : List ℕ
 room = replicate 244 0
 
 abbrev moment : ℕ → Moment
-moment time = record { sent_at_holds = time; received_at_holds = time + 50; buffer = room; buffer' = room; random = 0; idle_time_holds = none_named 0; net = [] }
+moment time = record { sent_at = time; received_at = time + 50; buffer = room; buffer' = room; random = 0; idle_time = none_named 0; net = [] }
 
 nothing_wrong : NothingWrong nodes 0 (moment 100)
 unfolding accepted bounds_accepted record_accepted record_in_range end_of in_range is_phase is_closed good_idle fresh_of become connect_allowed declared_by pick word_length
@@ -347,7 +347,7 @@ wrong_number_by_05_is_shut_out d =
     (record {
       route = record { sender = 9; destination_sap = 3; source_sap = 3 };
       random = 0;
-      idle_time_holds = none_named 0;
+      idle_time = none_named 0;
       telegram = acknowledged_1;
       net = [];
       head = head;

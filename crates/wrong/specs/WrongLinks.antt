@@ -233,7 +233,7 @@ NumberingByOurNumberIsOurs =
 -- What two nodes say that have the same link and set up a connection, from SAP 4 to SAP 3 at level 2: both are open. Some links below do so, and are wrong all
 -- the same, as ours would not understand them.
 abbrev pub giving : ℕ → Given
-giving random = record { time = 0; out = replicate 244 0; random = random; idle_time_holds = none_named 0; net = [] }
+giving random = record { time = 0; out = replicate 244 0; random = random; idle_time = none_named 0; net = [] }
 
 abbrev pub closed_two : Parties
 closed_two =
