@@ -29,6 +29,7 @@ pub(crate) const IDLE: u32 = 6;
 pub(crate) const DATA: u32 = 7;
 
 // A step that writes nothing.
+#[tactic(auto, unfolding(crate::specs::Steps::quietly))]
 pub(crate) fn quiet_step(record: Record, event: Event) -> Step
     ensures { result ≡ quietly «record» event }
 {
@@ -44,6 +45,7 @@ pub(crate) fn quiet_step(record: Record, event: Event) -> Step
 }
 
 // A refused step.
+#[tactic(auto, unfolding(crate::specs::Steps::refused_step))]
 pub(crate) fn refused_step(number: u32, record: Record) -> Step
     ensures { result ≡ refused_step number «record» }
 {
@@ -59,6 +61,7 @@ pub(crate) fn refused_step(number: u32, record: Record) -> Step
 }
 
 // A step that writes, by what the writer answered.
+#[tactic(auto, using(ground::specs::Choice::tests), unfolding(crate::specs::Steps::writing_step))]
 pub(crate) fn written_step(
     written: Written,
     old: Record,
@@ -173,6 +176,7 @@ fn idle_step(record: Record, own: u32, time: u64, out: &mut [u8]) -> Step
 }
 
 // New set-up desired, the disconnect's type: 0 where the disconnection is final.
+#[tactic(auto, using(ground::specs::Choice::tests))]
 fn new_setup_after(last: bool) -> u32
     ensures { result ≡ pick last 0 1 }
 {

@@ -62,6 +62,7 @@ fn in_confirm_awaited(kind: Kind) -> Verdict
 }
 
 // Column wAuthReq.
+#[tactic(auto, unfolding(ground::specs::Choice::pick))]
 fn in_authentication_awaited(kind: Kind) -> Verdict
     ensures { result ≡ ruled (row_of kind) 3 }
 {
@@ -96,6 +97,7 @@ fn in_authentication_awaited(kind: Kind) -> Verdict
 }
 
 // Column wAuthAck.
+#[tactic(auto, unfolding(ground::specs::Choice::pick))]
 fn in_acknowledgement_awaited(kind: Kind) -> Verdict
     ensures { result ≡ ruled (row_of kind) 4 }
 {
@@ -130,6 +132,7 @@ fn in_acknowledgement_awaited(kind: Kind) -> Verdict
 }
 
 // Column Data.
+#[tactic(auto, unfolding(ground::specs::Choice::pick))]
 fn in_open(kind: Kind) -> Verdict
     ensures { result ≡ ruled (row_of kind) 5 }
 {
@@ -195,6 +198,7 @@ fn failed(phase: u32) -> Verdict
 }
 
 // The table's verdict on a wait or watch that ran out.
+#[tactic(auto, unfolding(crate::specs::Judged::run_out_verdict, ground::specs::Choice::pick))]
 fn run_out_verdict(phase: u32) -> Verdict
     requires { (1 ≤ phase) × (phase ≤ 5) }
     ensures { result ≡ run_out_verdict phase }
@@ -221,6 +225,7 @@ fn run_out_verdict(phase: u32) -> Verdict
 }
 
 // Whether the timer that runs in this phase has run out.
+#[tactic(auto, using(ground::specs::Choice::tests), unfolding(crate::specs::Judged::run_out))]
 fn run_out(record: Record, time: u64) -> bool
     ensures { result ≡ run_out «record» time }
 {
@@ -237,6 +242,7 @@ fn run_out(record: Record, time: u64) -> bool
 }
 
 // Whether a request's or confirm's version is accepted.
+#[tactic(auto, using(ground::specs::Choice::tests), unfolding(crate::specs::Judged::good_version))]
 fn good_version(telegram: &[u8]) -> bool
     ensures { result ≡ good_version telegram.now }
 {
@@ -247,6 +253,7 @@ fn good_version(telegram: &[u8]) -> bool
 }
 
 // Whether an authentication number is our random number, changed as the level asks. Ours is that many before the number that we send next.
+#[tactic(auto, unfolding(crate::specs::Judged::good_number))]
 fn good_number(record: Record, before: u32, telegram: &[u8]) -> bool
     requires { (1 ≤ before) × (before ≤ 2) }
     ensures { result ≡ good_number «record» before telegram.now }
@@ -256,6 +263,7 @@ fn good_number(record: Record, before: u32, telegram: &[u8]) -> bool
 }
 
 // What the table leaves open: version and authentication number.
+#[tactic(auto, unfolding(ground::specs::Choice::pick))]
 fn narrow(verdict: Verdict, record: Record, telegram: &[u8]) -> Verdict
     ensures { result ≡ narrowed verdict «record» telegram.now }
 {
@@ -307,6 +315,7 @@ fn narrow(verdict: Verdict, record: Record, telegram: &[u8]) -> Verdict
 }
 
 // The number expected: while nothing is awaited, or a confirm is, 0.
+#[tactic(auto, using(ground::specs::Choice::tests), unfolding(crate::specs::Judged::expected_now))]
 fn expected_now(record: Record) -> u32
     ensures { result ≡ expected_now «record» }
 {
@@ -317,6 +326,7 @@ fn expected_now(record: Record) -> u32
 }
 
 // A telegram that passes the check.
+#[tactic(auto, unfolding(crate::specs::Judged::passed))]
 fn judge_passed(record: Record, telegram: &[u8]) -> Verdict
     requires { (1 ≤ «record».phase) × («record».phase ≤ 5) }
     ensures { result ≡ passed «record» (kind_of_command (command_of telegram.now)) telegram.now }
@@ -338,6 +348,7 @@ fn judge_checked(check: Check, record: Record, telegram: &[u8]) -> Verdict
 }
 
 // A received telegram.
+#[tactic(auto, using(ground::specs::Choice::tests), unfolding(crate::specs::Judged::judged))]
 pub(crate) fn judge(record: Record, own: u32, time: u64, telegram: &[u8]) -> Verdict
     requires { (1 ≤ «record».phase) × («record».phase ≤ 5) }
     ensures { result ≡ judged «record» own time telegram.now }
@@ -351,6 +362,7 @@ pub(crate) fn judge(record: Record, own: u32, time: u64, telegram: &[u8]) -> Ver
 }
 
 // A tick: closing before idle.
+#[tactic(auto, using(ground::specs::Choice::tests), unfolding(crate::specs::Judged::ticked))]
 pub(crate) fn judge_tick(record: Record, time: u64) -> Verdict
     requires { (1 ≤ «record».phase) × («record».phase ≤ 5) }
     ensures { result ≡ ticked «record» time }

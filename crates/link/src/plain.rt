@@ -5,6 +5,7 @@ ghost use Rattle.link.specs.Plain.{idle_time_by, happened};
 use crate::{Event, Happened, IdleTime};
 
 // An idle time is named where the flag is not 0.
+#[tactic(auto, unfolding(crate::specs::Plain::idle_time_by, ground::specs::Choice::pick))]
 pub fn idle_time_by(named: u32, time: u32) -> IdleTime
     ensures { result ≡ idle_time_by named time }
 {
@@ -14,6 +15,7 @@ pub fn idle_time_by(named: u32, time: u32) -> IdleTime
     IdleTime { named: true, time }
 }
 
+#[tactic(auto, unfolding(ground::specs::Choice::pick))]
 fn closed_as(reason: u32, last: bool) -> Happened
     ensures { result ≡ happened (Event.Closed reason last) }
 {

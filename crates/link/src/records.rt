@@ -8,6 +8,7 @@ use crate::phases::{CLOSED, FINALLY_CLOSED, OPEN};
 use telegram::End;
 
 // The end of the connection that a node of this address is.
+#[tactic(auto, unfolding(crate::specs::Records::end_of))]
 pub(crate) fn end_of(record: Record, own: u32) -> End
     ensures { result ≡ end_of «record» own }
 {
@@ -20,6 +21,7 @@ pub(crate) fn end_of(record: Record, own: u32) -> End
     }
 }
 
+#[tactic(auto, using(ground::specs::Choice::tests), unfolding(crate::specs::Records::is_phase))]
 fn is_phase(phase: u32) -> bool
     ensures { result ≡ is_phase phase }
 {
@@ -29,6 +31,7 @@ fn is_phase(phase: u32) -> bool
     phase <= FINALLY_CLOSED
 }
 
+#[tactic(auto, using(ground::specs::Choice::tests), unfolding(crate::specs::Records::is_closed))]
 fn is_closed(phase: u32) -> bool
     ensures { result ≡ is_closed phase }
 {
@@ -39,6 +42,7 @@ fn is_closed(phase: u32) -> bool
 }
 
 // Whether numbers, idle times and timers are 0.
+#[tactic(auto, using(ground::specs::Choice::tests), unfolding(crate::specs::Records::at_rest))]
 fn at_rest(record: Record) -> bool
     ensures { result ≡ at_rest «record» }
 {
@@ -61,6 +65,7 @@ fn at_rest(record: Record) -> bool
 }
 
 // Whether the record's own fields and the node's address are in range.
+#[tactic(auto, using(ground::specs::Choice::tests), unfolding(crate::specs::Records::record_in_range))]
 pub fn record_in_range(record: Record, own: u32) -> bool
     ensures { result ≡ record_in_range «record» own }
 {
@@ -85,6 +90,7 @@ pub fn record_in_range(record: Record, own: u32) -> bool
 }
 
 // A record that has never been used.
+#[tactic(auto, unfolding(crate::specs::Records::fresh_of))]
 pub fn fresh(partner: u32, partner_sap: u32, local_sap: u32, level: u32) -> Record
     ensures { result ≡ fresh_of partner partner_sap local_sap level }
 {

@@ -13,12 +13,14 @@ use crate::{Event, IdleTime, Record, Step};
 // The idle time that an opening or a confirm declares when none is named.
 const UNNAMED: u32 = 1000;
 
+#[tactic(auto, using(ground::specs::Choice::tests), unfolding(crate::specs::Steps::declared_by))]
 fn declared_by(idle: IdleTime) -> u32
     ensures { result ≡ declared_by idle }
 {
     if idle.named { idle.time } else { UNNAMED }
 }
 
+#[tactic(auto, using(ground::specs::Choice::tests))]
 fn is_not(x: u32, y: u32) -> bool
     ensures { result ≡ neb x y }
 {
@@ -32,6 +34,7 @@ fn has_room(room: usize) -> bool
 }
 
 // The first refusal that holds, or 0.
+#[tactic(auto, using(ground::specs::Choice::tests), unfolding(crate::specs::Steps::first_refusal))]
 fn first_refusal(
     ranged: bool,
     room: bool,

@@ -18,6 +18,7 @@ fn gap_since(then: u64, time: u64) -> u64
 }
 
 // Whether a wait has failed.
+#[tactic(auto, unfolding(crate::specs::Times::wait_over))]
 pub(crate) fn wait_over(record: Record, time: u64) -> bool
     ensures { result ≡ wait_over «record» time }
 {
@@ -25,6 +26,7 @@ pub(crate) fn wait_over(record: Record, time: u64) -> bool
 }
 
 // Whether the partner has been silent for longer than it declared.
+#[tactic(auto, using(ground::specs::Choice::tests), unfolding(crate::specs::Times::watch_over))]
 pub(crate) fn watch_over(record: Record, time: u64) -> bool
     ensures { result ≡ watch_over «record» time }
 {
@@ -35,6 +37,7 @@ pub(crate) fn watch_over(record: Record, time: u64) -> bool
 }
 
 // Whether half of the time that we declared has passed since we last sent. A gap of 2^32 or more is longer than twice any idle time, so that nothing overflows.
+#[tactic(auto, using(ground::specs::Choice::tests), unfolding(crate::specs::Times::idle_due))]
 pub(crate) fn idle_due(record: Record, time: u64) -> bool
     ensures { result ≡ idle_due «record» time }
 {
