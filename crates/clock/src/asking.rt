@@ -9,6 +9,7 @@ use crate::states::SYNCHRONISED;
 use crate::{Clock, FactorAsked, LocalTime, RefTime, TimeAsked};
 
 // Whether sixteen pairs count at a moment: the clock is synchronised, and its last resynchronisation is at most 3 s away.
+#[tactic(auto, unfolding(ground::specs::Choice::pick, crate::specs::Asking::counts_at))]
 fn counts(c: Clock, local: LocalTime) -> bool
     ensures { result ≡ counts_at c local }
 {
@@ -22,6 +23,7 @@ fn counts(c: Clock, local: LocalTime) -> bool
 }
 
 // Reference Time out of a local time, by the factor: the one place where it is made.
+#[tactic(auto, unfolding(crate::specs::Asking::adjusted_by))]
 fn adjusted(local: LocalTime, factor: u32) -> RefTime
     ensures { result ≡ adjusted_by local factor }
 {
@@ -30,6 +32,7 @@ fn adjusted(local: LocalTime, factor: u32) -> RefTime
 }
 
 // The factor at a moment.
+#[tactic(auto, unfolding(ground::specs::Choice::pick, crate::specs::Asking::factor_at))]
 pub fn factor(c: Clock, local: LocalTime) -> FactorAsked
     ensures { result ≡ factor_at c local }
 {
@@ -42,6 +45,7 @@ pub fn factor(c: Clock, local: LocalTime) -> FactorAsked
 }
 
 // The Reference Time at a moment.
+#[tactic(auto, unfolding(crate::specs::Asking::time_at))]
 pub fn reference_time(c: Clock, local: LocalTime) -> TimeAsked
     ensures { result ≡ time_at c local }
 {

@@ -28,6 +28,7 @@ const MIN_NUMBER_OF_MESSAGES: u32 = 18;
 const DRIFT: u64 = 30;
 
 // Whether the number is above that of the message received last, if there was one.
+#[tactic(auto, unfolding(ground::specs::Choice::pick, crate::specs::Tests::is_above))]
 pub(crate) fn above(last: Last, number: u32) -> bool
     ensures { result ≡ is_above last number }
 {
@@ -38,6 +39,7 @@ pub(crate) fn above(last: Last, number: u32) -> bool
 }
 
 // Whether the message before this number was the one received last.
+#[tactic(auto, unfolding(ground::specs::Choice::pick, crate::specs::Tests::is_following))]
 pub(crate) fn follows(last: Last, number: u32) -> bool
     ensures { result ≡ is_following last number }
 {
@@ -51,6 +53,7 @@ pub(crate) fn follows(last: Last, number: u32) -> bool
 }
 
 // The milliseconds from one moment to another.
+#[tactic(auto, unfolding(crate::specs::Tests::elapsed))]
 pub(crate) fn passed(from: LocalTime, to: LocalTime) -> u32
     ensures { result ≡ elapsed from to }
 {
@@ -58,6 +61,7 @@ pub(crate) fn passed(from: LocalTime, to: LocalTime) -> u32
 }
 
 // 7.4.1.5.1 and 7.4.1.6: there is a factor, and the last resynchronisation is not too long ago.
+#[tactic(auto, unfolding(ground::specs::Choice::pick))]
 pub(crate) fn standing(count: u32, resynchronised: LocalTime, local: LocalTime) -> u32
     ensures { result ≡ failing (standing_tests count resynchronised local) }
 {
@@ -71,6 +75,7 @@ pub(crate) fn standing(count: u32, resynchronised: LocalTime, local: LocalTime) 
 }
 
 // 7.4.3.3 and 7.4.3.4, which are 7.4.2.2.1 and 7.4.2.2.2: both times are later than those of the newest pair.
+#[tactic(auto, unfolding(ground::specs::Choice::pick))]
 pub(crate) fn later_test(new: Pair, newest: Pair) -> u32
     ensures { result ≡ failing (later_tests new newest) }
 {
@@ -84,6 +89,7 @@ pub(crate) fn later_test(new: Pair, newest: Pair) -> u32
 }
 
 // 7.4.3.5: the pair is near the factor in use before it.
+#[tactic(auto, unfolding(ground::specs::Choice::pick))]
 fn near(new: Pair, factor: u32) -> u32
     ensures { result ≡ failing (near_tests new factor) }
 {
@@ -95,6 +101,7 @@ fn near(new: Pair, factor: u32) -> u32
 }
 
 // 7.4.3.3 to 7.4.3.5.
+#[tactic(auto, unfolding(ground::specs::Choice::pick))]
 pub(crate) fn pair_test(new: Pair, newest: Pair, factor: u32) -> u32
     ensures { result ≡ failing (pair_tests new newest factor) }
 {
@@ -106,6 +113,7 @@ pub(crate) fn pair_test(new: Pair, newest: Pair, factor: u32) -> u32
 }
 
 // Whether the period has ended by this moment.
+#[tactic(auto, unfolding(crate::specs::Tests::period_over))]
 pub(crate) fn period_over(period: Period, local: LocalTime) -> bool
     ensures { result ≡ period_over period local }
 {
@@ -113,6 +121,7 @@ pub(crate) fn period_over(period: Period, local: LocalTime) -> bool
 }
 
 // 7.4.3.6 and 7.4.3.7, for a period that is over.
+#[tactic(auto, unfolding(ground::specs::Choice::pick))]
 pub(crate) fn period_test(period: Period, factor: u32) -> u32
     ensures { result ≡ failing (period_tests period factor) }
 {

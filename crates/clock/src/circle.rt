@@ -3,6 +3,7 @@ ghost use Rattle.std.specs.Prelude.{◌≡◌, unsigned_abs};
 ghost use Rattle.clock.specs.Circle.{minus, distance_of, later_than, apart_by};
 
 // a - b, modulo 2^32.
+#[tactic(auto, unfolding(crate::specs::Circle::minus))]
 pub(crate) fn less(a: u32, b: u32) -> u32
     ensures { result ≡ minus a b }
 {
@@ -10,6 +11,7 @@ pub(crate) fn less(a: u32, b: u32) -> u32
 }
 
 // How far a lies after b: from -2^31 to 2^31 - 1.
+#[tactic(auto, unfolding(ground::specs::Choice::pick, crate::specs::Circle::signed_of, crate::specs::Circle::distance_of))]
 pub(crate) fn distance(a: u32, b: u32) -> i64
     ensures { result ≡ distance_of a b }
 {
@@ -21,6 +23,7 @@ pub(crate) fn distance(a: u32, b: u32) -> i64
 }
 
 // Whether a is later than b.
+#[tactic(auto, unfolding(crate::specs::Circle::later_than))]
 pub(crate) fn later(a: u32, b: u32) -> bool
     ensures { result ≡ later_than a b }
 {
@@ -38,6 +41,7 @@ fn size(x: i64) -> u64
 }
 
 // How far two numbers lie apart.
+#[tactic(auto, unfolding(crate::specs::Circle::apart_by))]
 pub(crate) fn apart(a: u32, b: u32) -> u64
     ensures { result ≡ apart_by a b }
 {

@@ -9,6 +9,7 @@ use ground::number_at4;
 const BYTES: usize = 11;
 
 // The configuration data prefix: 3, 0, 0.
+#[tactic(auto, unfolding(ground::specs::Choice::pick, crate::specs::Reading::prefixed))]
 fn has_prefix(bytes: &[u8]) -> bool
     requires { length bytes.now ≡ 11 }
     ensures { result ≡ prefixed bytes.now }
@@ -23,6 +24,7 @@ fn has_prefix(bytes: &[u8]) -> bool
 }
 
 // What a run of bytes is.
+#[tactic(auto, unfolding(ground::specs::Choice::pick, crate::specs::Reading::read_by))]
 pub fn read_message(bytes: &[u8]) -> Reading
     ensures { result ≡ read_by bytes.now }
 {

@@ -6,6 +6,7 @@ use crate::Pair;
 use crate::circle::{distance, less};
 
 // The new pair at the front; the oldest falls out.
+#[tactic(auto, unfolding(crate::specs::Factor::fronted))]
 pub(crate) fn shifted(pairs: [Pair; 16], new: Pair) -> [Pair; 16]
     ensures { result ≡ fronted new pairs }
 {
@@ -16,6 +17,7 @@ pub(crate) fn shifted(pairs: [Pair; 16], new: Pair) -> [Pair; 16]
 }
 
 // Reference time less local time, modulo 2^32.
+#[tactic(auto, unfolding(crate::specs::Factor::difference_of))]
 pub(crate) fn difference(p: Pair) -> u32
     ensures { result ≡ difference_of p }
 {

@@ -16,6 +16,7 @@ pub const ISOLATED: u32 = 3;
 const MOST_MESSAGES: u32 = 0xFFFF_FFFF;
 
 // A clock that has received no message.
+#[tactic(auto, unfolding(crate::specs::Clocks::new_clock))]
 pub fn new_clock() -> Clock
     ensures { result ≡ new_clock }
 {
@@ -42,6 +43,7 @@ pub fn new_clock() -> Clock
 }
 
 // One more pair counts, and at most sixteen.
+#[tactic(auto, unfolding(ground::specs::Choice::pick, crate::specs::Clocks::counted_of))]
 pub(crate) fn counted(count: u32) -> u32
     ensures { result ≡ counted_of count }
 {
@@ -49,6 +51,7 @@ pub(crate) fn counted(count: u32) -> u32
 }
 
 // The message is kept for the next one, 7.2.1.13.
+#[tactic(auto, unfolding(crate::specs::Clocks::kept_by))]
 pub(crate) fn kept(c: Clock, message: Message, local: LocalTime) -> Clock
     ensures { result ≡ kept_by c message local }
 {
@@ -63,6 +66,7 @@ pub(crate) fn kept(c: Clock, message: Message, local: LocalTime) -> Clock
 }
 
 // The pairs begin anew: none counts.
+#[tactic(auto, unfolding(crate::specs::Clocks::begun_anew))]
 pub(crate) fn begun_anew(c: Clock) -> Clock
     ensures { result ≡ begun_anew c }
 {
@@ -72,6 +76,7 @@ pub(crate) fn begun_anew(c: Clock) -> Clock
 }
 
 // As before the first message.
+#[tactic(auto, unfolding(crate::specs::Clocks::forgotten))]
 pub(crate) fn forgetting(c: Clock) -> Clock
     ensures { result ≡ forgotten c }
 {
@@ -84,6 +89,7 @@ pub(crate) fn forgetting(c: Clock) -> Clock
 }
 
 // Isolated, 7.4.1.7.2.3: no pair counts.
+#[tactic(auto, unfolding(crate::specs::Clocks::isolated_by))]
 pub(crate) fn isolated(c: Clock) -> Clock
     ensures { result ≡ isolated_by c }
 {
@@ -94,6 +100,7 @@ pub(crate) fn isolated(c: Clock) -> Clock
 }
 
 // One pair more.
+#[tactic(auto, unfolding(crate::specs::Clocks::paired_by))]
 pub(crate) fn paired(c: Clock, new: Pair) -> Clock
     ensures { result ≡ paired_by c new }
 {
@@ -107,6 +114,7 @@ pub(crate) fn paired(c: Clock, new: Pair) -> Clock
 }
 
 // Synchronised, with the first period from this moment on; the message that came now is its first.
+#[tactic(auto, unfolding(crate::specs::Clocks::synchronised_at))]
 pub(crate) fn synchronised(c: Clock, local: LocalTime) -> Clock
     ensures { result ≡ synchronised_at c local }
 {
@@ -125,6 +133,7 @@ pub(crate) fn synchronised(c: Clock, local: LocalTime) -> Clock
 }
 
 // The period that follows one that is over, with the message that shows it.
+#[tactic(auto, unfolding(crate::specs::Clocks::next_period))]
 fn next_period(period: Period, factor: u32) -> Period
     ensures { result ≡ next_period period factor }
 {
@@ -137,6 +146,7 @@ fn next_period(period: Period, factor: u32) -> Period
 }
 
 // The period with one message more.
+#[tactic(auto, unfolding(ground::specs::Choice::pick, crate::specs::Clocks::counting_period))]
 fn counting(period: Period) -> Period
     ensures { result ≡ counting_period period }
 {
@@ -148,6 +158,7 @@ fn counting(period: Period) -> Period
 }
 
 // The period after a message: the next one where it is over, else the same.
+#[tactic(auto, unfolding(ground::specs::Choice::pick, crate::specs::Clocks::period_after))]
 fn period_after(period: Period, over: bool, factor: u32) -> Period
     ensures { result ≡ period_after period over factor }
 {
@@ -158,6 +169,7 @@ fn period_after(period: Period, over: bool, factor: u32) -> Period
 }
 
 // The period goes on, or the next one begins.
+#[tactic(auto, unfolding(crate::specs::Clocks::in_period))]
 pub(crate) fn in_period(c: Clock, over: bool, factor: u32) -> Clock
     ensures { result ≡ in_period c over factor }
 {
@@ -168,6 +180,7 @@ pub(crate) fn in_period(c: Clock, over: bool, factor: u32) -> Clock
 }
 
 // Resynchronised at this moment.
+#[tactic(auto, unfolding(crate::specs::Clocks::resynchronised_at))]
 pub(crate) fn resynchronised(c: Clock, local: LocalTime) -> Clock
     ensures { result ≡ resynchronised_at c local }
 {

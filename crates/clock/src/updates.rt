@@ -18,6 +18,7 @@ use crate::states::{
 use crate::{Clock, LocalTime, Message, Pair, Step};
 
 // The pair that a message makes with the local time saved at the one before it.
+#[tactic(auto, unfolding(crate::specs::Updates::pair_by))]
 fn pair_of(c: Clock, message: Message) -> Pair
     ensures { result ≡ pair_by c message }
 {
@@ -35,6 +36,7 @@ fn newest(pairs: [Pair; 16]) -> Pair
 }
 
 // A failed test of a clock that is not synchronised: the pairs begin anew, and the message is kept.
+#[tactic(auto, unfolding(crate::specs::Updates::anew_by))]
 fn anew(c: Clock, message: Message, local: LocalTime, event: u32) -> Step
     ensures { result ≡ anew_by c message local event }
 {
@@ -44,6 +46,7 @@ fn anew(c: Clock, message: Message, local: LocalTime, event: u32) -> Step
 }
 
 // A failed test of a clock that is synchronised: LostSync, 7.4.1.7.3.3.
+#[tactic(auto, unfolding(crate::specs::Updates::lost_by))]
 fn lost(c: Clock, event: u32) -> Step
     ensures { result ≡ lost_by c event }
 {
@@ -52,6 +55,7 @@ fn lost(c: Clock, event: u32) -> Step
 }
 
 // 7.4.2.2: the tests of a pair while unsynchronised. The first pair has none before it.
+#[tactic(auto, unfolding(ground::specs::Choice::pick, crate::specs::Updates::first_failing))]
 fn first_failing(c: Clock, new: Pair) -> u32
     ensures { result ≡ first_failing c new }
 {
@@ -64,6 +68,7 @@ fn first_failing(c: Clock, new: Pair) -> u32
 }
 
 // A pair more while unsynchronised: the sixteenth synchronises.
+#[tactic(auto, unfolding(ground::specs::Choice::pick, crate::specs::Updates::joined_by))]
 fn joined(c: Clock, new: Pair, message: Message, local: LocalTime) -> Step
     ensures { result ≡ joined_by c new message local }
 {
@@ -83,6 +88,7 @@ fn joined(c: Clock, new: Pair, message: Message, local: LocalTime) -> Step
 }
 
 // 7.4.2: the clock is not yet synchronised.
+#[tactic(auto, unfolding(ground::specs::Choice::pick, crate::specs::Updates::synchronise))]
 fn synchronise(c: Clock, message: Message, local: LocalTime) -> Step
     ensures { result ≡ synchronise c message local }
 {
@@ -106,6 +112,7 @@ fn synchronise(c: Clock, message: Message, local: LocalTime) -> Step
 }
 
 // 7.4.3.3 to 7.4.3.5, where the message makes a pair.
+#[tactic(auto, unfolding(ground::specs::Choice::pick))]
 fn pair_failing(c: Clock, message: Message, factor: u32) -> u32
     ensures { result ≡ failing (tests_of_pair c message factor) }
 {
@@ -119,6 +126,7 @@ fn pair_failing(c: Clock, message: Message, factor: u32) -> u32
 }
 
 // 7.4.3.6 and 7.4.3.7, where the period is over.
+#[tactic(auto, unfolding(ground::specs::Choice::pick))]
 fn period_failing(c: Clock, local: LocalTime, factor: u32) -> u32
     ensures { result ≡ failing (tests_of_period c local factor) }
 {
@@ -140,6 +148,7 @@ fn all_failing(c: Clock, message: Message, local: LocalTime, factor: u32) -> u32
 }
 
 // The pair of a message that makes one, and the moment of the resynchronisation.
+#[tactic(auto, unfolding(ground::specs::Choice::pick, crate::specs::Updates::pair_taken))]
 fn pair_taken(c: Clock, message: Message, local: LocalTime) -> Step
     ensures { result ≡ pair_taken c message local }
 {
@@ -159,6 +168,7 @@ fn pair_taken(c: Clock, message: Message, local: LocalTime) -> Step
 }
 
 // All tests passed: the pair, the period and the message.
+#[tactic(auto, unfolding(crate::specs::Updates::gone_on))]
 fn gone_on(c: Clock, message: Message, local: LocalTime, factor: u32) -> Step
     ensures { result ≡ gone_on c message local factor }
 {
@@ -173,6 +183,7 @@ fn gone_on(c: Clock, message: Message, local: LocalTime, factor: u32) -> Step
 }
 
 // 7.4.3: the clock is synchronised.
+#[tactic(auto, unfolding(ground::specs::Choice::pick, crate::specs::Updates::resynchronise))]
 fn resynchronise(c: Clock, message: Message, local: LocalTime) -> Step
     ensures { result ≡ resynchronise c message local }
 {
@@ -196,6 +207,7 @@ fn resynchronise(c: Clock, message: Message, local: LocalTime) -> Step
 }
 
 // The clock after a message, and the event.
+#[tactic(auto, unfolding(ground::specs::Choice::pick, crate::specs::Updates::heard_by))]
 pub fn heard(c: Clock, message: Message, local: LocalTime) -> Step
     ensures { result ≡ heard_by c message local }
 {
