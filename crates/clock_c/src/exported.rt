@@ -1,4 +1,4 @@
-// The clock for C and for Rattle: the one function that takes it where it stands, and what is asked of it. include/ujamniq.h declares them, for the people who
+// The clock for C: the one function that takes it where it stands, and what is asked of it. include/ujamniq.h declares them, for the people who
 // call them.
 ghost use Rattle.std.specs.Prelude.{◌≡◌};
 ghost use Rattle.clock.specs.Clocks.{new_clock};
