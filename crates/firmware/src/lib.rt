@@ -1,4 +1,4 @@
-// The library for the card's C firmware: plain numbers and byte runs. include/ujamniq.h declares what stands here, for the people who call it.
+// The library for the card's firmware: plain numbers and byte runs. `firmware_c` exports what stands here to C.
 #![tactic(auto)]
 
 ghost use Rattle.std.specs.Prelude.{◌≡◌, ◌++◌};
@@ -27,8 +27,7 @@ fn end_of(own: u32, partner: u32, partner_sap: u32, local_sap: u32, level: u32) 
 }
 
 // Connect request.
-#[unsafe(no_mangle)]
-pub extern "C" fn uj_write_request(
+pub fn uj_write_request(
     own: u32,
     partner: u32,
     partner_sap: u32,
@@ -46,8 +45,7 @@ pub extern "C" fn uj_write_request(
 }
 
 // Connect confirm.
-#[unsafe(no_mangle)]
-pub extern "C" fn uj_write_confirm(
+pub fn uj_write_confirm(
     own: u32,
     partner: u32,
     partner_sap: u32,
@@ -65,8 +63,7 @@ pub extern "C" fn uj_write_confirm(
 }
 
 // Authentication, from the number received at set-up.
-#[unsafe(no_mangle)]
-pub extern "C" fn uj_write_authentication(
+pub fn uj_write_authentication(
     own: u32,
     partner: u32,
     partner_sap: u32,
@@ -83,8 +80,7 @@ pub extern "C" fn uj_write_authentication(
 }
 
 // Authentication acknowledgement, from the number received at set-up.
-#[unsafe(no_mangle)]
-pub extern "C" fn uj_write_acknowledgement(
+pub fn uj_write_acknowledgement(
     own: u32,
     partner: u32,
     partner_sap: u32,
@@ -101,8 +97,7 @@ pub extern "C" fn uj_write_acknowledgement(
 }
 
 // Disconnect. A new set-up is desired, 1, or the disconnection is final, 0.
-#[unsafe(no_mangle)]
-pub extern "C" fn uj_write_disconnect(
+pub fn uj_write_disconnect(
     own: u32,
     partner: u32,
     partner_sap: u32,
@@ -121,8 +116,7 @@ pub extern "C" fn uj_write_disconnect(
 }
 
 // Idle.
-#[unsafe(no_mangle)]
-pub extern "C" fn uj_write_idle(
+pub fn uj_write_idle(
     own: u32,
     partner: u32,
     partner_sap: u32,
@@ -138,8 +132,7 @@ pub extern "C" fn uj_write_idle(
 }
 
 // Data, with the command's low six bits.
-#[unsafe(no_mangle)]
-pub extern "C" fn uj_write_data(
+pub fn uj_write_data(
     own: u32,
     partner: u32,
     partner_sap: u32,
@@ -157,8 +150,7 @@ pub extern "C" fn uj_write_data(
 }
 
 // The check of a received telegram, as a number: 0 passes, 1 and 6 refused, 100 failed.
-#[unsafe(no_mangle)]
-pub extern "C" fn uj_check(
+pub fn uj_check(
     own: u32,
     partner: u32,
     partner_sap: u32,
@@ -174,24 +166,21 @@ pub extern "C" fn uj_check(
 }
 
 // Where the net data of a telegram lie.
-#[unsafe(no_mangle)]
-pub extern "C" fn uj_net_data(telegram: &[u8]) -> Part
+pub fn uj_net_data(telegram: &[u8]) -> Part
     ensures { result ≡ net_part telegram.now }
 {
     telegram::net_part(telegram)
 }
 
 // The check word at SL 4 of `first` and then `second`.
-#[unsafe(no_mangle)]
-pub extern "C" fn uj_word48(first: &[u8], second: &[u8]) -> u64
+pub fn uj_word48(first: &[u8], second: &[u8]) -> u64
     ensures { result ≡ word 48 generator48 (first.now ++ second.now) }
 {
     checkword::word48(first, second)
 }
 
 // The check word at SL 2 of `first` and then `second`.
-#[unsafe(no_mangle)]
-pub extern "C" fn uj_word32(first: &[u8], second: &[u8]) -> u32
+pub fn uj_word32(first: &[u8], second: &[u8]) -> u32
     ensures { result ≡ word 32 generator32 (first.now ++ second.now) }
 {
     checkword::word32(first, second)
