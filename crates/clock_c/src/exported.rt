@@ -1,5 +1,5 @@
-// The clock for C: the one function that takes it where it stands, and what is asked of it. include/ujamniq.h declares them, for the people who
-// call them.
+// The clock for C and for Rattle: the one function that takes it where it stands, and what is asked of it. include/ujamniq.h declares them, for the people who
+// call them; clock_export hands them to C.
 ghost use Rattle.std.specs.Prelude.{◌≡◌};
 ghost use Rattle.clock.specs.Clocks.{new_clock};
 ghost use Rattle.clock.specs.Updates.{heard_by};
@@ -67,16 +67,14 @@ fn plain_time(c: Clock, local: LocalTime) -> PlainTime
 }
 
 // A clock that has received no message.
-#[unsafe(no_mangle)]
-pub extern "C" fn uj_clock_new() -> Clock
+pub fn uj_clock_new() -> Clock
     ensures { result ≡ new_clock }
 {
     clock::new_clock()
 }
 
 // A message from its bytes.
-#[unsafe(no_mangle)]
-pub extern "C" fn uj_clock_read(bytes: &[u8]) -> PlainReading
+pub fn uj_clock_read(bytes: &[u8]) -> PlainReading
     ensures { result ≡ plain_reading (read_by bytes.now) }
 {
     match clock::read_message(bytes) {
@@ -90,8 +88,7 @@ pub extern "C" fn uj_clock_read(bytes: &[u8]) -> PlainReading
 }
 
 // A message, for the lent clock.
-#[unsafe(no_mangle)]
-pub extern "C" fn uj_clock_message(clock: &mut Clock, message: Message, local: LocalTime) -> u32
+pub fn uj_clock_message(clock: &mut Clock, message: Message, local: LocalTime) -> u32
     ensures { (result ≡ (heard_by clock.old message local).event) × (clock.new ≡ (heard_by clock.old message local).clock) }
 {
     let h = clock::heard(*clock, message, local);
@@ -100,16 +97,14 @@ pub extern "C" fn uj_clock_message(clock: &mut Clock, message: Message, local: L
 }
 
 // The factor of a lent clock, which is read and left.
-#[unsafe(no_mangle)]
-pub extern "C" fn uj_clock_factor(clock: &Clock, local: LocalTime) -> PlainFactor
+pub fn uj_clock_factor(clock: &Clock, local: LocalTime) -> PlainFactor
     ensures { result ≡ plain_factor (factor_at clock.now local) }
 {
     plain_factor(*clock, local)
 }
 
 // The Reference Time by a lent clock, likewise.
-#[unsafe(no_mangle)]
-pub extern "C" fn uj_clock_reference_time(clock: &Clock, local: LocalTime) -> PlainTime
+pub fn uj_clock_reference_time(clock: &Clock, local: LocalTime) -> PlainTime
     ensures { result ≡ plain_time (time_at clock.now local) }
 {
     plain_time(*clock, local)
