@@ -1,85 +1,81 @@
-// What the programs of cases print, word by word: answers, events, records and the bytes of a short telegram. It is no part of the library.
+// What the programs of cases print, word by word: answers, events, records and the bytes of a short telegram. It is no
+// part of the library.
 #![tactic(auto)]
 
-use libc::STDOUT_FILENO;
 use link::{Answer, Event, Record};
+use std::io;
+use std::io::Write;
 
-pub fn words(text: &[u8]) {
-    io::write_all(STDOUT_FILENO, text);
+pub fn words(to: &mut impl Write, text: &str) -> io::Result<()> {
+    write!(to, "{text}")
 }
 
-pub fn number(name: &[u8], n: u32) {
-    words(name);
-    io::print_decimal(STDOUT_FILENO, n as u64);
+pub fn number(to: &mut impl Write, name: &str, n: u32) -> io::Result<()> {
+    write!(to, "{name}{n}")
 }
 
-pub fn heading(name: &[u8], level: u32) {
-    number(name, level);
-    words(b"\n");
+pub fn heading(to: &mut impl Write, name: &str, level: u32) -> io::Result<()> {
+    number(to, name, level)?;
+    words(to, "\n")
 }
 
-fn wide(byte: u8) -> u64 {
-    byte as u64
-}
-
-fn bytes(run: &[u8]) {
-    let mut i = 0;
-    while i < run.len() {
-        io::print_hex(STDOUT_FILENO, wide(run[i]), 2);
-        i += 1;
+fn bytes(to: &mut impl Write, run: &[u8]) -> io::Result<()> {
+    for byte in run {
+        write!(to, "{byte:02x}")?;
     }
+    Ok(())
 }
 
-fn hex(name: &[u8], n: u32) {
-    words(name);
-    io::print_hex(STDOUT_FILENO, n as u64, 8);
+fn hex(to: &mut impl Write, name: &str, n: u32) -> io::Result<()> {
+    write!(to, "{name}{n:08x}")
 }
 
 // An answer: its number, the telegram written and its length.
-pub fn answered(answer: Answer) {
-    number(b": answer ", answer.number);
-    number(b" telegram ", answer.telegram);
-    number(b" of ", answer.length);
+pub fn answered(to: &mut impl Write, answer: Answer) -> io::Result<()> {
+    number(to, ": answer ", answer.number)?;
+    number(to, " telegram ", answer.telegram)?;
+    number(to, " of ", answer.length)
 }
 
 // The event, and the values that it has.
-pub fn happened(event: Event) {
+pub fn happened(to: &mut impl Write, event: Event) -> io::Result<()> {
     let h = link::happened_as(event);
-    number(b" event ", h.event);
+    number(to, " event ", h.event)?;
     if h.event == 2 {
-        number(b" command ", h.command);
-        number(b" start ", h.start);
-        number(b" count ", h.count);
+        number(to, " command ", h.command)?;
+        number(to, " start ", h.start)?;
+        number(to, " count ", h.count)?;
     }
     if h.event == 3 {
-        number(b" reason ", h.reason);
-        number(b" last ", h.last);
+        number(to, " reason ", h.reason)?;
+        number(to, " last ", h.last)?;
     }
+    Ok(())
 }
 
 // What a record is.
-pub fn left(record: Record) {
-    number(b" phase ", record.phase);
-    hex(b" sending ", record.sending);
-    hex(b" expected ", record.expected);
-    number(b" declared ", record.declared);
-    number(b" watched ", record.watched);
+pub fn left(to: &mut impl Write, record: Record) -> io::Result<()> {
+    number(to, " phase ", record.phase)?;
+    hex(to, " sending ", record.sending)?;
+    hex(to, " expected ", record.expected)?;
+    number(to, " declared ", record.declared)?;
+    number(to, " watched ", record.watched)
 }
 
 // The longest telegram whose bytes are printed.
 const SHORT: usize = 30;
 
 // The bytes of a short telegram.
-pub fn short(length: usize, out: &[u8]) {
+pub fn short(to: &mut impl Write, length: usize, out: &[u8]) -> io::Result<()> {
     if length == 0 {
-        return;
+        return Ok(());
     }
     if SHORT < length {
-        return;
+        return Ok(());
     }
     if out.len() < length {
-        return;
+        return Ok(());
     }
-    words(b" bytes ");
-    bytes(&out[..length]);
+    words(to, " bytes ")?;
+    bytes(to, &out[..length])
 }
