@@ -1,10 +1,5 @@
-pub mod Calling
+pub mod Called
 pub mod Cases
 pub mod Facts
-pub mod Known
 pub mod Order
-pub mod Rows
 pub mod Searches
-pub mod Shared
-pub mod Stepping
-pub mod Walking

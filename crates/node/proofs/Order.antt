@@ -42,7 +42,7 @@ pub record Fine (a r t c p : Bool) : Type 0 where
   pub carried : c ≡ true
   pub placed : p ≡ true
 
-all_fine : (a r t c p : Bool) → T (eqb (pick a (pick r (pick t (pick c (pick p 0 2) 6) 7) 4) 1) 0) → Fine a r t c p
+pub all_fine : (a r t c p : Bool) → T (eqb (pick a (pick r (pick t (pick c (pick p 0 2) 6) 7) 4) 1) 0) → Fine a r t c p
 unfolding pick
 all_fine false r t c p h = absurd h
 all_fine true false t c p h = absurd h

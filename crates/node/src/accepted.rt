@@ -9,6 +9,7 @@ use link::Record;
 pub const MOST_RECORDS: usize = 64;
 
 // Whether a table has 1 to 64 records, and the own address is in range.
+#[tactic(auto, using(ground::specs::Choice::tests), unfolding(crate::specs::Accepted::bounds_accepted))]
 fn bounds_accepted(count: usize, own: u32) -> bool
     ensures { result ≡ bounds_accepted count own }
 {
@@ -22,6 +23,7 @@ fn bounds_accepted(count: usize, own: u32) -> bool
 }
 
 // Whether the record's fields are in range, under the head: its timers too.
+#[tactic(auto, using(ground::specs::Choice::tests), unfolding(crate::specs::Accepted::record_accepted))]
 fn record_accepted(record: Record, head: Head) -> bool
     ensures { result ≡ record_accepted head «record» }
 {
@@ -76,6 +78,7 @@ fn has_pair(table: &[Record]) -> bool
 }
 
 // Whether a table is one that the calls take under this head: else they answer 1.
+#[tactic(auto, using(ground::specs::Choice::tests), unfolding(crate::specs::Accepted::accepted))]
 pub fn table_accepted(table: &[Record], head: Head) -> bool
     ensures { result ≡ accepted head table.now }
 {

@@ -10,6 +10,7 @@ use crate::{Head, Outcome, Route};
 use link::{IdleTime, Record};
 
 // Opens the connection at a place: a request goes out under the random number.
+#[tactic(auto, using(crate::proofs::Called::placed_before))]
 pub fn open(
     table: &mut [Record],
     head: Head,
@@ -32,6 +33,7 @@ pub fn open(
 }
 
 // Closes the connection at a place: a disconnect goes out.
+#[tactic(auto, using(crate::proofs::Called::placed_before))]
 pub fn close(
     table: &mut [Record],
     head: Head,
@@ -54,6 +56,7 @@ pub fn close(
 }
 
 // Sends data on the connection at a place.
+#[tactic(auto, using(crate::proofs::Called::placed_before))]
 pub fn send(
     table: &mut [Record],
     head: Head,
@@ -75,6 +78,7 @@ pub fn send(
 }
 
 // Takes a telegram for the connection that its route names. Random number, idle time and net data are for a possible confirm.
+#[tactic(auto, using(crate::proofs::Called::placed_before))]
 pub fn received(
     table: &mut [Record],
     head: Head,
@@ -109,6 +113,7 @@ pub fn received(
 }
 
 // Lets time pass for the connection at a place.
+#[tactic(auto, using(crate::proofs::Called::placed_before))]
 pub fn tick(table: &mut [Record], head: Head, time: u64, place: usize, out: &mut [u8]) -> Outcome
     ensures { (result ≡ (called (Tick place) head table.old time out.old).outcome) × ((table.new ≡ (called (Tick place) head table.old time out.old).table) × (out.new ≡ (called (Tick place) head table.old time out.old).out)) }
 {

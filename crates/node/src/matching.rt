@@ -24,6 +24,7 @@ pub fn first_match(table: &[Record], route: Route) -> usize
 }
 
 // What a telegram was sent under, by its numbers.
+#[tactic(auto, unfolding(crate::specs::Matching::route_by))]
 pub fn route_by(sender: u32, destination_sap: u32, source_sap: u32) -> Route
     ensures { result ≡ route_by sender destination_sap source_sap }
 {

@@ -8,6 +8,7 @@ use link::{Answer, Event, Happened, Step};
 use telegram::Part;
 
 // A refused call: the head as it was.
+#[tactic(auto, unfolding(crate::specs::Calls::refused_outcome))]
 pub(crate) fn refused(number: u32, head: Head) -> Outcome
     ensures { result ≡ refused_outcome number head }
 {
@@ -23,6 +24,7 @@ pub(crate) fn refused(number: u32, head: Head) -> Outcome
 }
 
 // What a step became for the node: where it was done, its time is the latest.
+#[tactic(auto, using(ground::specs::Choice::tests), unfolding(crate::specs::Calls::settled, crate::specs::Heads::at))]
 pub(crate) fn settle(step: Step, head: Head, time: u64) -> Outcome
     ensures { result ≡ settled step head time }
 {
@@ -71,6 +73,7 @@ pub fn net_data(telegram: &[u8], event: Event) -> &[u8]
 }
 
 // The outcome as plain numbers, for C: of data, where they lie in the telegram received.
+#[tactic(auto, unfolding(crate::specs::Plain::plain))]
 pub fn plain_outcome(outcome: Outcome) -> PlainOutcome
     ensures { result ≡ plain outcome }
 {

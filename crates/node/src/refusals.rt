@@ -7,6 +7,7 @@ use crate::accepted::table_accepted;
 use link::Record;
 
 // The first of these that fails, as its number, or 0.
+#[tactic(auto, using(ground::specs::Choice::tests))]
 fn first_failing(accepted: bool, room: bool, timely: bool, carried: bool, placed: bool) -> u32
     ensures { result ≡ first (of_table (until_place accepted room timely carried placed)) }
 {
@@ -26,6 +27,7 @@ fn first_failing(accepted: bool, room: bool, timely: bool, carried: bool, placed
 }
 
 // The first refusal that holds before the record is looked at, or 0: 1, 4, 7, 6, 2.
+#[tactic(auto, using(ground::specs::Choice::tests), unfolding(crate::specs::Refusals::before))]
 pub(crate) fn refusal(
     table: &[Record],
     head: Head,
