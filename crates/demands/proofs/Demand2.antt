@@ -42,7 +42,7 @@ use Rattle.link.proofs.Answers.{answers}
 use Rattle.link.specs.declared.Event.{Event}
 use Rattle.link.specs.declared.Event.TheVariants as event
 use Rattle.link.specs.declared.Verdict.{Verdict}
-use Rattle.link.specs.declared.Verdict.TheVariants.{Nothing, Confirm, Data, Idle, SendIdle, Close as Closes}
+use Rattle.link.specs.declared.Verdict.TheVariants.{Nothing, SendIdle, Close as Closes}
 use Rattle.node.specs.declared.Head.{Head}
 use Rattle.node.specs.declared.Route.{Route}
 use Rattle.node.specs.Heads.{at}

@@ -3,10 +3,9 @@
 use mathlib.Core.Path.{◌≡◌, refl, sym, ap, ◌∙◌}
 use mathlib.Core.Bool.{Bool, true, false}
 use mathlib.Core.List.{List, [], ◌∷◌}
-use Prim.Native.Nat.{ℕ, ◌+◌, ◌%◌, ◌≤◌, ◌<◌}
+use Prim.Native.Nat.{ℕ, ◌%◌, ◌≤◌, ◌<◌}
 use native.Mathlib.Omega.{arith}
 use lib.ListN.{length, take, drop}
-use lib.Dec.{leb}
 use borrow.Author.Tests.{leb-false, le-leb, eq-eqb}
 use Rattle.ground.specs.Choice.{pick}
 use Rattle.ground.specs.Numbers.{lowest_first}
@@ -17,7 +16,7 @@ use Rattle.telegram.specs.Values.{good_idle}
 use Rattle.telegram.specs.Writers.{connect_allowed}
 use Rattle.telegram.specs.declared.End.{End}
 use Rattle.telegram.specs.declared.Kind.TheVariants.{Request}
-use Rattle.link.specs.Records.{end_of, become}
+use Rattle.link.specs.Records.{become}
 use Rattle.link.specs.Steps.{declared_by}
 use Rattle.link.specs.Facts.{naming, none_named}
 use Rattle.link.specs.declared.Record.{Record}
@@ -29,10 +28,9 @@ use Rattle.node.specs.Refusals.{Asked, order, first}
 use Rattle.node.specs.Calls.{Left, asked, called}
 use Rattle.node.specs.Calls.Call.{Open, Received, Tick}
 use Rattle.node.proofs.Facts.{first_answered}
-use Rattle.demands.specs.Pairs.{telegram_of, Done, Watching, InTime, Listens}
-use Rattle.demands.specs.Effects.{Effect, Does, Receipt, takes, place_for, record_for}
+use Rattle.demands.specs.Pairs.{Watching, Listens}
+use Rattle.demands.specs.Effects.{Effect, Does, place_for, record_for}
 use Rattle.demands.specs.OneEnd.{LooksAt}
-use Rattle.demands.specs.SetUp.{Parties, BothOpen}
 use Rattle.demands.specs.IdleTimes.{Carries, Declares, Keeps1000, Demand2IdleTimes}
 use Rattle.demands.proofs.Effects.{told, open_does}
 use Rattle.demands.proofs.OneEnd.{silence_closes_here, ticks_in_time, when_closed}

@@ -27,7 +27,6 @@ use Rattle.link.specs.Steps.{declared_by, received_refusal, tick_refusal}
 use Rattle.link.specs.Plain.{happened}
 use Rattle.link.specs.declared.Record.{Record}
 use Rattle.link.specs.declared.Event.{Event}
-use Rattle.link.specs.declared.Event.TheVariants as event
 use Rattle.link.specs.declared.Verdict.{Verdict}
 use Rattle.link.specs.declared.Verdict.TheVariants.{Nothing, Confirm, Authenticate, Acknowledge, Open as Opens, Data, Idle, SendIdle, Disconnected, Close as Closes}
 use Rattle.link.proofs.Cases.{phases, live_phase}

@@ -1,7 +1,7 @@
 -- Damage on the cable: a telegram that passes the check of a record, changed on its way within as many neighbouring bytes as its check word has, passes it no
 -- more; and what the record does with it. crates/worked/specs has worked examples, in Damage.antt, and what isn't so, in DamageLimits.antt.
 -- Assumes nothing.
-use Rattle.std.specs.Prelude.{◌≡◌, false, List, [], ◌++◌, ◌⊎◌, ℕ, ◌+◌, ◌*◌, ◌≤◌, length, take, drop}
+use Rattle.std.specs.Prelude.{◌≡◌, false, List, [], ◌++◌, ◌⊎◌, ℕ, ◌*◌, ◌≤◌, length, take, drop}
 use Rattle.checkword.specs.Bytes.{Bytes, Within}
 use Rattle.checkword.specs.Polynomial.{Generator}
 use Rattle.checkword.specs.Word.{Agrees}

@@ -1,7 +1,7 @@
 -- Demand 2, the idle times that are declared, in numbers: an opening and a confirm declare the time that is named, 0 too, and 1,000 where none is (change
 -- request e). OneEnd.antt and SetUp.antt state them by `declared_by`; here that definition is not named, so that a fault in it is seen too.
 -- Assumes nothing.
-use Rattle.std.specs.Prelude.{◌≡◌, true, false, List, [], ◌∷◌, ℕ, ◌+◌, ◌%◌, ◌≤◌, ◌<◌, length, take, drop}
+use Rattle.std.specs.Prelude.{◌≡◌, false, List, [], ◌∷◌, ℕ, ◌+◌, ◌%◌, ◌≤◌, ◌<◌, length, take, drop}
 use Rattle.ground.specs.Numbers.{lowest_first}
 use Rattle.telegram.specs.Layout.{most}
 use Rattle.telegram.specs.declared.Kind.TheVariants.{Request}

@@ -1,6 +1,6 @@
 -- Worked examples that meet what Demand2 asks for, at level 4 and at level 2; the other files begin with their nodes and records.
 -- Assumes nothing.
-use Rattle.std.specs.Prelude.{◌≡◌, refl, false, List, [], ◌∷◌, ℕ, ◌+◌, ◌≤◌, ◌<◌, replicate}
+use Rattle.std.specs.Prelude.{◌≡◌, refl, List, [], ◌∷◌, ℕ, ◌+◌, replicate}
 use Rattle.std.proofs.Common.{arith, lit<, lit≤}
 use Rattle.checkword.specs.Bytes.{Bytes}
 use Rattle.checkword.specs.Generators.{generator48, generator32}

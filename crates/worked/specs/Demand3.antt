@@ -29,7 +29,7 @@ use Rattle.node.specs.Calls.{Left, called, asked, settled}
 use Rattle.demands.specs.Pairs.{Done}
 use Rattle.worked.specs.Demand2.{example_record, example_receipt}
 use Rattle.demands.specs.Demand3.{Two, end_at, Wrote}
-use Rattle.demands.specs.Demand3.Wrote.{disconnect, data_telegram_holds}
+use Rattle.demands.specs.Demand3.Wrote.{data_telegram_holds}
 
 -- Worked example: node 1, which has seen no time yet ..
 abbrev pub example_head : Head

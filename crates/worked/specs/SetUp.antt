@@ -1,7 +1,7 @@
 -- Worked examples of demand 2's set-up, at level 4 and at level 2, and at level 4 with other calls between: they meet what the demand asks for, and all that is
 -- given fits.
 -- Assumes nothing.
-use Rattle.std.specs.Prelude.{◌≡◌, refl, false, List, [], ◌∷◌, ℕ, replicate}
+use Rattle.std.specs.Prelude.{◌≡◌, refl, List, [], ◌∷◌, ℕ, replicate}
 use Rattle.std.proofs.Common.{arith, lit<, lit≤}
 use Rattle.checkword.specs.Generators.{generator48, generator32}
 use Rattle.checkword.specs.Word.{shift, feed}

@@ -29,11 +29,11 @@ use Rattle.link.specs.declared.Record.{Record}
 use Rattle.link.specs.declared.IdleTime.{IdleTime}
 use Rattle.node.specs.declared.Head.{Head}
 use Rattle.node.specs.Accepted.{record_at, record_accepted, bounds_accepted, accepted}
-use Rattle.node.specs.Calls.{Call, Left, Link, asked, called}
+use Rattle.node.specs.Calls.{Left, Link, asked, called}
 use Rattle.node.specs.Calls.Call.{Open, Close, Send, Received, Tick}
 use Rattle.demands.specs.Effects.{Receipt, takes, place_for}
 use Rattle.demands.specs.OneEnd.{GoodRequest}
-use Rattle.demands.specs.IdleTimes.{Declares, Demand2IdleTimes}
+use Rattle.demands.specs.IdleTimes.{Declares}
 use Rattle.demands.proofs.DamagedConnect.{of_levels}
 use Rattle.demands.proofs.Worked.{idle_time_answers}
 use Rattle.demands.proofs.IdleTimes.{demand_2_idle_times}

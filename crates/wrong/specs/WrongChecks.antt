@@ -1,7 +1,7 @@
 -- Wrong checks that pass more or less than the telegrams that there are, and of each the statement that demand 3 shuts it out. proofs/WrongChecks.antt proves each
 -- statement by one telegram, under the same name in small letters.
 -- Assumes nothing.
-use Rattle.std.specs.Prelude.{◌≡◌, Bool, true, List, [], ◌∷◌, ◌++◌, ℕ, suc, ◌%◌, ◌<◌, length, take, drop, get_or, leb, eqb}
+use Rattle.std.specs.Prelude.{◌≡◌, Bool, true, List, ◌∷◌, ◌++◌, ℕ, suc, ◌%◌, ◌<◌, length, take, drop, get_or, leb, eqb}
 use Rattle.checkword.specs.Bytes.{Bytes}
 use Rattle.ground.specs.Choice.{pick}
 use Rattle.telegram.specs.Layout.{on_bus}
