@@ -1,7 +1,7 @@
 /*
  * The stack that the functions of include/ujamniq.h use when they run, held to what bench/stack reads from their compiled code: no call goes deeper than the
- * figure of its function, and over all cases each function, but for those in `less`, comes down to its figure. A function that is exported and has no case
- * here does not, and fails the test. What the functions do is for the other tests; here every call counts for its depth (painted.h).
+ * figure of its function, and over all cases each function comes down to its figure. A function that is exported and has no case here does not, and fails the
+ * test. What the functions do is for the other tests; here every call counts for its depth (painted.h).
  *
  * In this order: functions with known figures to try the measuring on, the check word, the writers, the check, the calls over a table, the local clock, what
  * was seen.
@@ -603,21 +603,14 @@ static void test_any_messages(void)
     }
 }
 
-/* Functions that may use less than their figure. uj_fresh loads sixteen bytes at once from below the stack pointer, of which it has written the upper twelve
- * alone: the lowest four are read, and their paint stays. */
-static const char *const less[] = {"uj_fresh"};
-
 /* Every function has come down to its figure. */
 static void test_figures(void)
 {
     for (size_t i = 0; i < sizeof functions / sizeof *functions; i++) {
         const function *f = functions[i];
-        int may_be_less = 0;
-        for (size_t k = 0; k < sizeof less / sizeof *less; k++)
-            may_be_less |= strcmp(f->name, less[k]) == 0;
         printf("stack: %-25s %4zu bytes by the code, %4zu seen\n", f->name, f->figure, f->deepest);
         case_is(f->name, f->figure, f->deepest);
-        CHECK(f->deepest == f->figure || (may_be_less && f->deepest > 0));
+        CHECK(f->deepest == f->figure);
     }
 }
 
