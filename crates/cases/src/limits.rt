@@ -1,104 +1,140 @@
-// The last moment that is in time and the first that is not, of each wait, of the watch, and of an idle telegram of ours. Records last sent and took at 1000.
+// The last moment that is in time and the first that is not, of each wait, of the watch, and of an idle telegram of
+// ours. Records last sent and took at 1000.
 use crate::made::{in_phase, telegram_for};
 use crate::run::{takes, ticks};
+use std::io;
+use std::io::Write;
 
 // The partner's telegram of a kind at a time.
-fn arrives(name: &[u8], level: u32, phase: u32, kind: u32, time: u64) {
+fn arrives(
+    to: &mut impl Write,
+    name: &str,
+    level: u32,
+    phase: u32,
+    kind: u32,
+    time: u64,
+) -> io::Result<()> {
     let mut telegram = [0u8; 244];
     let mut out = [0u8; 244];
     let side = in_phase(level, phase);
     let length = telegram_for(side, kind, &mut telegram);
-    takes(name, side, time, &telegram, length, &mut out);
+    takes(to, name, side, time, &telegram, length, &mut out)?;
+    Ok(())
 }
 
-fn passes(name: &[u8], level: u32, phase: u32, time: u64) {
+fn passes(to: &mut impl Write, name: &str, level: u32, phase: u32, time: u64) -> io::Result<()> {
     let mut out = [0u8; 244];
-    ticks(name, in_phase(level, phase), time, &mut out);
+    ticks(to, name, in_phase(level, phase), time, &mut out)?;
+    Ok(())
 }
 
-fn waits(level: u32) {
-    arrives(b"confirm after 5000", level, link::CONFIRM_AWAITED, 2, 6000);
-    arrives(b"confirm after 5001", level, link::CONFIRM_AWAITED, 2, 6001);
+fn waits(to: &mut impl Write, level: u32) -> io::Result<()> {
     arrives(
-        b"authentication after 5000",
+        to,
+        "confirm after 5000",
+        level,
+        link::CONFIRM_AWAITED,
+        2,
+        6000,
+    )?;
+    arrives(
+        to,
+        "confirm after 5001",
+        level,
+        link::CONFIRM_AWAITED,
+        2,
+        6001,
+    )?;
+    arrives(
+        to,
+        "authentication after 5000",
         level,
         link::AUTHENTICATION_AWAITED,
         3,
         6000,
-    );
+    )?;
     arrives(
-        b"authentication after 5001",
+        to,
+        "authentication after 5001",
         level,
         link::AUTHENTICATION_AWAITED,
         3,
         6001,
-    );
+    )?;
     arrives(
-        b"acknowledgement after 5000",
+        to,
+        "acknowledgement after 5000",
         level,
         link::ACKNOWLEDGEMENT_AWAITED,
         4,
         6000,
-    );
+    )?;
     arrives(
-        b"acknowledgement after 5001",
+        to,
+        "acknowledgement after 5001",
         level,
         link::ACKNOWLEDGEMENT_AWAITED,
         4,
         6001,
-    );
+    )
 }
 
-fn waits_by_tick(level: u32) {
+fn waits_by_tick(to: &mut impl Write, level: u32) -> io::Result<()> {
     passes(
-        b"tick, confirm awaited for 5000",
+        to,
+        "tick, confirm awaited for 5000",
         level,
         link::CONFIRM_AWAITED,
         6000,
-    );
+    )?;
     passes(
-        b"tick, confirm awaited for 5001",
+        to,
+        "tick, confirm awaited for 5001",
         level,
         link::CONFIRM_AWAITED,
         6001,
-    );
+    )?;
     passes(
-        b"tick, authentication awaited for 5000",
+        to,
+        "tick, authentication awaited for 5000",
         level,
         link::AUTHENTICATION_AWAITED,
         6000,
-    );
+    )?;
     passes(
-        b"tick, authentication awaited for 5001",
+        to,
+        "tick, authentication awaited for 5001",
         level,
         link::AUTHENTICATION_AWAITED,
         6001,
-    );
+    )?;
     passes(
-        b"tick, acknowledgement awaited for 5000",
+        to,
+        "tick, acknowledgement awaited for 5000",
         level,
         link::ACKNOWLEDGEMENT_AWAITED,
         6000,
-    );
+    )?;
     passes(
-        b"tick, acknowledgement awaited for 5001",
+        to,
+        "tick, acknowledgement awaited for 5001",
         level,
         link::ACKNOWLEDGEMENT_AWAITED,
         6001,
-    );
+    )
 }
 
-fn watch(level: u32) {
-    arrives(b"data after 600, watched", level, link::OPEN, 7, 1600);
-    arrives(b"data after 601, watched", level, link::OPEN, 7, 1601);
-    passes(b"tick after 249, half less one", level, link::OPEN, 1249);
-    passes(b"tick after 250, half", level, link::OPEN, 1250);
-    passes(b"tick after 600, watched", level, link::OPEN, 1600);
-    passes(b"tick after 601, watched", level, link::OPEN, 1601);
+fn watch(to: &mut impl Write, level: u32) -> io::Result<()> {
+    arrives(to, "data after 600, watched", level, link::OPEN, 7, 1600)?;
+    arrives(to, "data after 601, watched", level, link::OPEN, 7, 1601)?;
+    passes(to, "tick after 249, half less one", level, link::OPEN, 1249)?;
+    passes(to, "tick after 250, half", level, link::OPEN, 1250)?;
+    passes(to, "tick after 600, watched", level, link::OPEN, 1600)?;
+    passes(to, "tick after 601, watched", level, link::OPEN, 1601)
 }
 
-pub(crate) fn limits(level: u32) {
-    waits(level);
-    waits_by_tick(level);
-    watch(level);
+pub(crate) fn limits(to: &mut impl Write, level: u32) -> io::Result<()> {
+    waits(to, level)?;
+    waits_by_tick(to, level)?;
+    watch(to, level)
 }

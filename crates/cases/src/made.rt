@@ -92,12 +92,12 @@ pub(crate) fn partner(level: u32) -> End {
     }
 }
 
-// Telegrams of the partner's that are not good: 8 an idle telegram that is 256 numbers too late, whose check word fails; 9 and 10 an authentication and an
-// acknowledgement from a random number that is not ours.
+// Telegrams of the partner's that are not good: 8 an idle telegram that is 256 numbers too late, whose check word
+// fails; 9 and 10 an authentication and an acknowledgement from a random number that is not ours.
 fn wrong_by_partner(kind: u32, level: u32, number: u32, out: &mut [u8]) -> Written {
     let end = partner(level);
     if kind == 8 {
-        return writers::write_idle(out, end, std::num::wrapping_add_u32(number, 256));
+        return writers::write_idle(out, end, number.wrapping_add(256));
     }
     if kind == 9 {
         return writers::write_authentication(out, end, number, THEIRS);

@@ -2,28 +2,44 @@
 use crate::made::{in_phase, telegram_for};
 use crate::run::{opens, takes_lent};
 use link::IdleTime;
+use std::io;
+use std::io::Write;
 
-fn opening(name: &[u8], level: u32, idle: IdleTime) {
+fn opening(to: &mut impl Write, name: &str, level: u32, idle: IdleTime) -> io::Result<()> {
     let mut out = [0u8; 244];
-    opens(name, in_phase(level, link::CLOSED), 1000, idle, &mut out);
+    opens(
+        to,
+        name,
+        in_phase(level, link::CLOSED),
+        1000,
+        idle,
+        &mut out,
+    )?;
+    Ok(())
 }
 
 // A request of node 1's, confirmed by node 8.
-fn confirming(name: &[u8], level: u32, idle: IdleTime) {
+fn confirming(to: &mut impl Write, name: &str, level: u32, idle: IdleTime) -> io::Result<()> {
     let mut request = [0u8; 244];
     let mut out = [0u8; 244];
     let side = in_phase(level, link::CLOSED);
     let length = telegram_for(side, 1, &mut request);
-    takes_lent(name, side, 1000, idle, b"", &request, length, &mut out);
+    takes_lent(to, name, side, 1000, idle, b"", &request, length, &mut out)?;
+    Ok(())
 }
 
-pub(crate) fn idle_times(level: u32) {
-    opening(b"open, none named", level, link::idle_time_by(0, 0));
-    opening(b"open, 0 named", level, link::idle_time_by(1, 0));
-    opening(b"open, 1000 named", level, link::idle_time_by(1, 1000));
-    opening(b"open, 150 named", level, link::idle_time_by(1, 150));
-    confirming(b"confirm, none named", level, link::idle_time_by(0, 0));
-    confirming(b"confirm, 0 named", level, link::idle_time_by(1, 0));
-    confirming(b"confirm, 1000 named", level, link::idle_time_by(1, 1000));
-    confirming(b"confirm, 150 named", level, link::idle_time_by(1, 150));
+pub(crate) fn idle_times(to: &mut impl Write, level: u32) -> io::Result<()> {
+    opening(to, "open, none named", level, link::idle_time_by(0, 0))?;
+    opening(to, "open, 0 named", level, link::idle_time_by(1, 0))?;
+    opening(to, "open, 1000 named", level, link::idle_time_by(1, 1000))?;
+    opening(to, "open, 150 named", level, link::idle_time_by(1, 150))?;
+    confirming(to, "confirm, none named", level, link::idle_time_by(0, 0))?;
+    confirming(to, "confirm, 0 named", level, link::idle_time_by(1, 0))?;
+    confirming(
+        to,
+        "confirm, 1000 named",
+        level,
+        link::idle_time_by(1, 1000),
+    )?;
+    confirming(to, "confirm, 150 named", level, link::idle_time_by(1, 150))
 }

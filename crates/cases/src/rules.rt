@@ -2,89 +2,107 @@
 use crate::made::{in_phase, partner, telegram_for};
 use crate::run::{closes, sends, takes, takes_lent};
 use link::IdleTime;
+use std::io;
+use std::io::Write;
 
 // Good data on an open record, with this much net data lent for a confirm that is not sent.
-fn lent(name: &[u8], level: u32, idle: IdleTime, net: &[u8]) {
+fn lent(to: &mut impl Write, name: &str, level: u32, idle: IdleTime, net: &[u8]) -> io::Result<()> {
     let mut telegram = [0u8; 244];
     let mut out = [0u8; 244];
     let side = in_phase(level, link::OPEN);
     let length = telegram_for(side, 7, &mut telegram);
-    takes_lent(name, side, 1100, idle, net, &telegram, length, &mut out);
+    takes_lent(to, name, side, 1100, idle, net, &telegram, length, &mut out)?;
+    Ok(())
 }
 
-fn lent_net(level: u32) {
+fn lent_net(to: &mut impl Write, level: u32) -> io::Result<()> {
     let net = [0xAAu8; 240];
     let idle = link::idle_time_by(0, 0);
-    lent(b"data, 226 bytes lent", level, idle, &net[..226]);
-    lent(b"data, 227 bytes lent", level, idle, &net[..227]);
-    lent(b"data, 228 bytes lent", level, idle, &net[..228]);
-    lent(b"data, 229 bytes lent", level, idle, &net[..229]);
+    lent(to, "data, 226 bytes lent", level, idle, &net[..226])?;
+    lent(to, "data, 227 bytes lent", level, idle, &net[..227])?;
+    lent(to, "data, 228 bytes lent", level, idle, &net[..228])?;
+    lent(to, "data, 229 bytes lent", level, idle, &net[..229])?;
     lent(
-        b"data, idle time 150 named",
+        to,
+        "data, idle time 150 named",
         level,
         link::idle_time_by(1, 150),
         b"",
-    );
+    )
 }
 
 // Neither wait nor watch is looked at by send and close, and close is given no time.
-fn unwatched(level: u32) {
+fn unwatched(to: &mut impl Write, level: u32) -> io::Result<()> {
     let mut out = [0u8; 244];
     sends(
-        b"send after the watch",
+        to,
+        "send after the watch",
         in_phase(level, link::OPEN),
         1601,
         0x09,
         b"net",
         &mut out,
-    );
+    )?;
     sends(
-        b"send after 5001",
+        to,
+        "send after 5001",
         in_phase(level, link::OPEN),
         6001,
         0x09,
         b"net",
         &mut out,
-    );
+    )?;
     closes(
-        b"close of an open record",
+        to,
+        "close of an open record",
         in_phase(level, link::OPEN),
         1,
         0x1F,
         &mut out,
-    );
+    )?;
     closes(
-        b"close before the confirm",
+        to,
+        "close before the confirm",
         in_phase(level, link::CONFIRM_AWAITED),
         1,
         0,
         &mut out,
-    );
+    )?;
     closes(
-        b"close before authentication",
+        to,
+        "close before authentication",
         in_phase(level, link::AUTHENTICATION_AWAITED),
         0,
         0x40,
         &mut out,
-    );
+    )?;
     closes(
-        b"close, reason 08h",
+        to,
+        "close, reason 08h",
         in_phase(level, link::OPEN),
         1,
         0x08,
         &mut out,
-    );
+    )?;
     closes(
-        b"close, type 2",
+        to,
+        "close, type 2",
         in_phase(level, link::OPEN),
         2,
         0,
         &mut out,
-    );
+    )?;
+    Ok(())
 }
 
 // A disconnect under a number, on a record that awaits its confirm.
-fn disconnected(name: &[u8], level: u32, number: u32, new_setup: u32) {
+fn disconnected(
+    to: &mut impl Write,
+    name: &str,
+    level: u32,
+    number: u32,
+    new_setup: u32,
+) -> io::Result<()> {
     let mut telegram = [0u8; 244];
     let mut out = [0u8; 244];
     let written = writers::write_disconnect(
@@ -96,42 +114,84 @@ fn disconnected(name: &[u8], level: u32, number: u32, new_setup: u32) {
         b"",
     );
     takes(
+        to,
         name,
         in_phase(level, link::CONFIRM_AWAITED),
         1100,
         &telegram,
         written.length,
         &mut out,
-    );
+    )?;
+    Ok(())
 }
 
-fn commands(level: u32) {
+fn commands(to: &mut impl Write, level: u32) -> io::Result<()> {
     let mut out = [0u8; 244];
     let side = in_phase(level, link::OPEN);
-    sends(b"send, command 09h", side, 1100, 0x09, b"net", &mut out);
-    sends(b"send, command 20h", side, 1100, 0x20, b"net", &mut out);
-    sends(b"send, command 89h", side, 1100, 0x89, b"net", &mut out);
-    sends(b"send, command 0Dh", side, 1100, 0x0D, b"net", &mut out);
-    sends(b"send, command 06h", side, 1100, 0x06, b"net", &mut out);
-    sends(b"send, command 40h", side, 1100, 0x40, b"net", &mut out);
+    sends(to, "send, command 09h", side, 1100, 0x09, b"net", &mut out)?;
+    sends(to, "send, command 20h", side, 1100, 0x20, b"net", &mut out)?;
+    sends(to, "send, command 89h", side, 1100, 0x89, b"net", &mut out)?;
+    sends(to, "send, command 0Dh", side, 1100, 0x0D, b"net", &mut out)?;
+    sends(to, "send, command 06h", side, 1100, 0x06, b"net", &mut out)?;
+    sends(to, "send, command 40h", side, 1100, 0x40, b"net", &mut out)?;
+    Ok(())
 }
 
-fn longest(level: u32) {
+fn longest(to: &mut impl Write, level: u32) -> io::Result<()> {
     let mut out = [0u8; 244];
     let net = [0xAAu8; 240];
     let side = in_phase(level, link::OPEN);
-    sends(b"send 236 bytes", side, 1100, 0x09, &net[..236], &mut out);
-    sends(b"send 237 bytes", side, 1100, 0x09, &net[..237], &mut out);
-    sends(b"send 238 bytes", side, 1100, 0x09, &net[..238], &mut out);
-    sends(b"send 239 bytes", side, 1100, 0x09, &net[..239], &mut out);
+    sends(
+        to,
+        "send 236 bytes",
+        side,
+        1100,
+        0x09,
+        &net[..236],
+        &mut out,
+    )?;
+    sends(
+        to,
+        "send 237 bytes",
+        side,
+        1100,
+        0x09,
+        &net[..237],
+        &mut out,
+    )?;
+    sends(
+        to,
+        "send 238 bytes",
+        side,
+        1100,
+        0x09,
+        &net[..238],
+        &mut out,
+    )?;
+    sends(
+        to,
+        "send 239 bytes",
+        side,
+        1100,
+        0x09,
+        &net[..239],
+        &mut out,
+    )?;
+    Ok(())
 }
 
-pub(crate) fn rules(level: u32) {
-    lent_net(level);
-    unwatched(level);
-    disconnected(b"disconnect 0 before the confirm, final", level, 0, 0);
-    disconnected(b"disconnect 0 before the confirm, not final", level, 0, 1);
-    disconnected(b"disconnect 1 before the confirm, final", level, 1, 0);
-    commands(level);
-    longest(level);
+pub(crate) fn rules(to: &mut impl Write, level: u32) -> io::Result<()> {
+    lent_net(to, level)?;
+    unwatched(to, level)?;
+    disconnected(to, "disconnect 0 before the confirm, final", level, 0, 0)?;
+    disconnected(
+        to,
+        "disconnect 0 before the confirm, not final",
+        level,
+        0,
+        1,
+    )?;
+    disconnected(to, "disconnect 1 before the confirm, final", level, 1, 0)?;
+    commands(to, level)?;
+    longest(to, level)
 }

@@ -1,9 +1,12 @@
 // The five steps, each run and shown as a line.
 use crate::show::line;
 use link::{IdleTime, Record, Step};
+use std::io;
+use std::io::Write;
 
-// A node's own address, the random number that it opens and confirms with, its record, and the length of the telegram that its last step wrote.
-#[derive(Drop)]
+// A node's own address, the random number that it opens and confirms with, its record, and the length of the telegram
+// that its last step wrote.
+#[derive(Clone, Copy)]
 pub(crate) struct Side {
     pub own: u32,
     pub random: u32,
@@ -12,52 +15,74 @@ pub(crate) struct Side {
 }
 
 // Shows a step, and keeps what it leaves.
-fn shown(name: &[u8], side: Side, step: Step, out: &[u8]) -> Side {
-    line(name, step, out);
+fn shown(to: &mut impl Write, name: &str, side: Side, step: Step, out: &[u8]) -> io::Result<Side> {
+    line(to, name, step, out)?;
     let record = step.record;
     let answer = step.answer;
-    Side {
+    Ok(Side {
         own: side.own,
         random: side.random,
         record,
         length: answer.length,
-    }
+    })
 }
 
-pub(crate) fn opens(name: &[u8], side: Side, time: u64, idle: IdleTime, out: &mut [u8]) -> Side {
+pub(crate) fn opens(
+    to: &mut impl Write,
+    name: &str,
+    side: Side,
+    time: u64,
+    idle: IdleTime,
+    out: &mut [u8],
+) -> io::Result<Side> {
     let record = side.record;
     let step = link::open(record, side.own, time, side.random, idle, b"", out);
-    shown(name, side, step, out)
+    shown(to, name, side, step, out)
 }
 
-pub(crate) fn closes(name: &[u8], side: Side, new_setup: u32, reason: u32, out: &mut [u8]) -> Side {
+pub(crate) fn closes(
+    to: &mut impl Write,
+    name: &str,
+    side: Side,
+    new_setup: u32,
+    reason: u32,
+    out: &mut [u8],
+) -> io::Result<Side> {
     let record = side.record;
     let step = link::close(record, side.own, new_setup, reason, b"", out);
-    shown(name, side, step, out)
+    shown(to, name, side, step, out)
 }
 
 pub(crate) fn sends(
-    name: &[u8],
+    to: &mut impl Write,
+    name: &str,
     side: Side,
     time: u64,
     command: u32,
     net: &[u8],
     out: &mut [u8],
-) -> Side {
+) -> io::Result<Side> {
     let record = side.record;
     let step = link::send(record, side.own, time, command, net, out);
-    shown(name, side, step, out)
+    shown(to, name, side, step, out)
 }
 
-pub(crate) fn ticks(name: &[u8], side: Side, time: u64, out: &mut [u8]) -> Side {
+pub(crate) fn ticks(
+    to: &mut impl Write,
+    name: &str,
+    side: Side,
+    time: u64,
+    out: &mut [u8],
+) -> io::Result<Side> {
     let record = side.record;
     let step = link::tick(record, side.own, time, out);
-    shown(name, side, step, out)
+    shown(to, name, side, step, out)
 }
 
 // Takes the front of a run as a telegram, and lends what a confirm would need.
 pub(crate) fn takes_lent(
-    name: &[u8],
+    to: &mut impl Write,
+    name: &str,
     side: Side,
     time: u64,
     idle: IdleTime,
@@ -65,10 +90,10 @@ pub(crate) fn takes_lent(
     run: &[u8],
     length: u32,
     out: &mut [u8],
-) -> Side {
+) -> io::Result<Side> {
     let n = length as usize;
     if run.len() < n {
-        return side;
+        return Ok(side);
     }
     let record = side.record;
     let step = link::received(
@@ -81,18 +106,19 @@ pub(crate) fn takes_lent(
         net,
         out,
     );
-    shown(name, side, step, out)
+    shown(to, name, side, step, out)
 }
 
 // The same with an idle time of 500 named and no net data lent.
 pub(crate) fn takes(
-    name: &[u8],
+    to: &mut impl Write,
+    name: &str,
     side: Side,
     time: u64,
     run: &[u8],
     length: u32,
     out: &mut [u8],
-) -> Side {
+) -> io::Result<Side> {
     let idle = link::idle_time_by(1, 500);
-    takes_lent(name, side, time, idle, b"", run, length, out)
+    takes_lent(to, name, side, time, idle, b"", run, length, out)
 }

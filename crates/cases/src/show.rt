@@ -1,21 +1,23 @@
 // A step as a line.
 use link::Step;
 use shown::{answered, happened, left, short, words};
+use std::io;
+use std::io::Write;
 
 // What a step left, without the end of the line.
-fn outcome(name: &[u8], step: Step) {
+fn outcome(to: &mut impl Write, name: &str, step: Step) -> io::Result<()> {
     let answer = step.answer;
     let event = step.event;
     let record = step.record;
-    words(name);
-    answered(answer);
-    happened(event);
-    left(record);
+    words(to, name)?;
+    answered(to, answer)?;
+    happened(to, event)?;
+    left(to, record)
 }
 
-pub(crate) fn line(name: &[u8], step: Step, out: &[u8]) {
-    outcome(name, step);
+pub(crate) fn line(to: &mut impl Write, name: &str, step: Step, out: &[u8]) -> io::Result<()> {
+    outcome(to, name, step)?;
     let answer = step.answer;
-    short(answer.length as usize, out);
-    words(b"\n");
+    short(to, answer.length as usize, out)?;
+    words(to, "\n")
 }
