@@ -1,4 +1,5 @@
-// A node of two connections whose records are held by value: for each call a table of the two is made and lent, and the records are taken out of it again.
+// A node of two connections whose records are held by value: for each call a table of the two is made and lent, and the
+// records are taken out of it again.
 ghost use Rattle.std.specs.Prelude.{◌≡◌, [], ◌∷◌};
 ghost use Rattle.node.specs.Accepted.{record_at};
 ghost use Rattle.node.specs.Calls.{called};

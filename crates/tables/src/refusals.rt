@@ -1,6 +1,8 @@
 // Each refusal of the calls, and the first of several.
 use crate::cards::module;
 use crate::station::{Station, closes, opens, sends, takes};
+use std::io;
+use std::io::Write;
 
 // A station whose second record is the first once more.
 fn alike(s: Station) -> Station {
@@ -16,83 +18,101 @@ fn alike(s: Station) -> Station {
 }
 
 // What concerns the table, the buffer and the time.
-fn of_table(fresh: Station, asking: Station) {
+fn of_table(to: &mut impl Write, fresh: Station, asking: Station) -> io::Result<()> {
     let mut there = [0u8; 244];
     let mut small = [0u8; 243];
     opens(
-        b"1 two records alike",
+        to,
+        "1 two records alike",
         alike(fresh),
         1000,
         0,
         b"",
         &mut there,
-    );
-    opens(b"4 no room", fresh, 1000, 0, b"", &mut small);
-    opens(b"7 time goes back", asking, 999, 1, b"", &mut there);
+    )?;
+    opens(to, "4 no room", fresh, 1000, 0, b"", &mut small)?;
+    opens(to, "7 time goes back", asking, 999, 1, b"", &mut there)?;
+    Ok(())
 }
 
 // What concerns the telegram and the record's place.
-fn of_place(asking: Station) {
+fn of_place(to: &mut impl Write, asking: Station) -> io::Result<()> {
     let mut there = [0u8; 244];
     takes(
-        b"6 telegram of five bytes",
+        to,
+        "6 telegram of five bytes",
         asking,
         1000,
         1,
         b"short",
         5,
         &mut there,
-    );
+    )?;
     takes(
-        b"2 a sender in no record",
+        to,
+        "2 a sender in no record",
         asking,
         1000,
         3,
         b"six...",
         6,
         &mut there,
-    );
+    )?;
     opens(
-        b"2 a place past the table",
+        to,
+        "2 a place past the table",
         asking,
         1000,
         2,
         b"",
         &mut there,
-    );
+    )?;
+    Ok(())
 }
 
 // What concerns the record.
-fn of_record(asking: Station) {
+fn of_record(to: &mut impl Write, asking: Station) -> io::Result<()> {
     let mut there = [0u8; 244];
-    let ended = closes(b"closes finally", asking, 1000, 0, 0, &mut there);
-    opens(b"8 finally closed", ended, 1000, 0, b"", &mut there);
-    opens(b"3 not closed", asking, 1000, 0, b"", &mut there);
+    let ended = closes(to, "closes finally", asking, 1000, 0, 0, &mut there)?;
+    opens(to, "8 finally closed", ended, 1000, 0, b"", &mut there)?;
+    opens(to, "3 not closed", asking, 1000, 0, b"", &mut there)?;
     closes(
-        b"5 a type that there is not",
+        to,
+        "5 a type that there is not",
         asking,
         1000,
         0,
         2,
         &mut there,
-    );
+    )?;
+    Ok(())
 }
 
 // Several at once: the first in the order.
-fn several(asking: Station) {
+fn several(to: &mut impl Write, asking: Station) -> io::Result<()> {
     let mut there = [0u8; 244];
     let mut small = [0u8; 243];
-    opens(b"4, 7 and 2 at once", asking, 999, 2, b"", &mut small);
-    opens(b"7 and 2 at once", asking, 999, 2, b"", &mut there);
-    sends(b"3 and 5 at once", asking, 1000, 1, 0x08, b"", &mut there);
+    opens(to, "4, 7 and 2 at once", asking, 999, 2, b"", &mut small)?;
+    opens(to, "7 and 2 at once", asking, 999, 2, b"", &mut there)?;
+    sends(
+        to,
+        "3 and 5 at once",
+        asking,
+        1000,
+        1,
+        0x08,
+        b"",
+        &mut there,
+    )?;
+    Ok(())
 }
 
-pub(crate) fn refusals(level: u32) {
+pub(crate) fn refusals(to: &mut impl Write, level: u32) -> io::Result<()> {
     let mut there = [0u8; 244];
     let fresh = module(8, level);
-    let asking = opens(b"opens", fresh, 1000, 0, b"", &mut there);
-    of_table(fresh, asking);
-    of_place(asking);
-    of_record(asking);
-    several(asking);
+    let asking = opens(to, "opens", fresh, 1000, 0, b"", &mut there)?;
+    of_table(to, fresh, asking)?;
+    of_place(to, asking)?;
+    of_record(to, asking)?;
+    several(to, asking)
 }

@@ -1,33 +1,33 @@
 // A call as a line.
 use crate::Left;
-use libc::STDOUT_FILENO;
 use shown::{answered, happened, left, short, words};
+use std::io;
+use std::io::Write;
 
 // A call as a line: the answer, the event, the latest time, and what each of the two records is afterwards.
-pub(crate) fn call_line(name: &[u8], call: Left, out: &[u8]) {
+pub(crate) fn call_line(to: &mut impl Write, name: &str, call: Left, out: &[u8]) -> io::Result<()> {
     let o = call.outcome;
     let answer = o.answer;
     let event = o.event;
     let head = o.head;
-    words(name);
-    answered(answer);
-    happened(event);
-    words(b" latest ");
-    io::print_decimal(STDOUT_FILENO, head.latest);
-    words(b"; first");
-    left(call.first);
-    words(b"; second");
-    left(call.second);
-    short(answer.length as usize, out);
-    words(b"\n");
+    words(to, name)?;
+    answered(to, answer)?;
+    happened(to, event)?;
+    write!(to, " latest {}", head.latest)?;
+    words(to, "; first")?;
+    left(to, call.first)?;
+    words(to, "; second")?;
+    left(to, call.second)?;
+    short(to, answer.length as usize, out)?;
+    words(to, "\n")
 }
 
 // The net data that an event hands on.
-pub(crate) fn net_line(net: &[u8]) {
+pub(crate) fn net_line(to: &mut impl Write, net: &[u8]) -> io::Result<()> {
     if net.len() == 0 {
-        return;
+        return Ok(());
     }
-    words(b"  net data ");
-    words(net);
-    words(b"\n");
+    words(to, "  net data ")?;
+    to.write_all(net)?;
+    words(to, "\n")
 }
