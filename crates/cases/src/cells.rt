@@ -11,9 +11,9 @@ fn cell(to: &mut impl Write, level: u32, phase: u32, kind: u32) -> io::Result<()
     let mut out = [0u8; 244];
     let side = in_phase(level, phase);
     let length = telegram_for(side, kind, &mut telegram);
-    number(to, "phase ", phase)?;
-    number(to, " takes ", kind)?;
-    takes(to, "", side, 1100, &telegram, length, &mut out)?;
+    number(to, b"phase ", phase)?;
+    number(to, b" takes ", kind)?;
+    takes(to, b"", side, 1100, &telegram, length, &mut out)?;
     Ok(())
 }
 

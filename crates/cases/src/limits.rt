@@ -8,7 +8,7 @@ use std::io::Write;
 // The partner's telegram of a kind at a time.
 fn arrives(
     to: &mut impl Write,
-    name: &str,
+    name: &[u8],
     level: u32,
     phase: u32,
     kind: u32,
@@ -22,7 +22,7 @@ fn arrives(
     Ok(())
 }
 
-fn passes(to: &mut impl Write, name: &str, level: u32, phase: u32, time: u64) -> io::Result<()> {
+fn passes(to: &mut impl Write, name: &[u8], level: u32, phase: u32, time: u64) -> io::Result<()> {
     let mut out = [0u8; 244];
     ticks(to, name, in_phase(level, phase), time, &mut out)?;
     Ok(())
@@ -31,7 +31,7 @@ fn passes(to: &mut impl Write, name: &str, level: u32, phase: u32, time: u64) ->
 fn waits(to: &mut impl Write, level: u32) -> io::Result<()> {
     arrives(
         to,
-        "confirm after 5000",
+        b"confirm after 5000",
         level,
         link::CONFIRM_AWAITED,
         2,
@@ -39,7 +39,7 @@ fn waits(to: &mut impl Write, level: u32) -> io::Result<()> {
     )?;
     arrives(
         to,
-        "confirm after 5001",
+        b"confirm after 5001",
         level,
         link::CONFIRM_AWAITED,
         2,
@@ -47,7 +47,7 @@ fn waits(to: &mut impl Write, level: u32) -> io::Result<()> {
     )?;
     arrives(
         to,
-        "authentication after 5000",
+        b"authentication after 5000",
         level,
         link::AUTHENTICATION_AWAITED,
         3,
@@ -55,7 +55,7 @@ fn waits(to: &mut impl Write, level: u32) -> io::Result<()> {
     )?;
     arrives(
         to,
-        "authentication after 5001",
+        b"authentication after 5001",
         level,
         link::AUTHENTICATION_AWAITED,
         3,
@@ -63,7 +63,7 @@ fn waits(to: &mut impl Write, level: u32) -> io::Result<()> {
     )?;
     arrives(
         to,
-        "acknowledgement after 5000",
+        b"acknowledgement after 5000",
         level,
         link::ACKNOWLEDGEMENT_AWAITED,
         4,
@@ -71,7 +71,7 @@ fn waits(to: &mut impl Write, level: u32) -> io::Result<()> {
     )?;
     arrives(
         to,
-        "acknowledgement after 5001",
+        b"acknowledgement after 5001",
         level,
         link::ACKNOWLEDGEMENT_AWAITED,
         4,
@@ -82,42 +82,42 @@ fn waits(to: &mut impl Write, level: u32) -> io::Result<()> {
 fn waits_by_tick(to: &mut impl Write, level: u32) -> io::Result<()> {
     passes(
         to,
-        "tick, confirm awaited for 5000",
+        b"tick, confirm awaited for 5000",
         level,
         link::CONFIRM_AWAITED,
         6000,
     )?;
     passes(
         to,
-        "tick, confirm awaited for 5001",
+        b"tick, confirm awaited for 5001",
         level,
         link::CONFIRM_AWAITED,
         6001,
     )?;
     passes(
         to,
-        "tick, authentication awaited for 5000",
+        b"tick, authentication awaited for 5000",
         level,
         link::AUTHENTICATION_AWAITED,
         6000,
     )?;
     passes(
         to,
-        "tick, authentication awaited for 5001",
+        b"tick, authentication awaited for 5001",
         level,
         link::AUTHENTICATION_AWAITED,
         6001,
     )?;
     passes(
         to,
-        "tick, acknowledgement awaited for 5000",
+        b"tick, acknowledgement awaited for 5000",
         level,
         link::ACKNOWLEDGEMENT_AWAITED,
         6000,
     )?;
     passes(
         to,
-        "tick, acknowledgement awaited for 5001",
+        b"tick, acknowledgement awaited for 5001",
         level,
         link::ACKNOWLEDGEMENT_AWAITED,
         6001,
@@ -125,12 +125,18 @@ fn waits_by_tick(to: &mut impl Write, level: u32) -> io::Result<()> {
 }
 
 fn watch(to: &mut impl Write, level: u32) -> io::Result<()> {
-    arrives(to, "data after 600, watched", level, link::OPEN, 7, 1600)?;
-    arrives(to, "data after 601, watched", level, link::OPEN, 7, 1601)?;
-    passes(to, "tick after 249, half less one", level, link::OPEN, 1249)?;
-    passes(to, "tick after 250, half", level, link::OPEN, 1250)?;
-    passes(to, "tick after 600, watched", level, link::OPEN, 1600)?;
-    passes(to, "tick after 601, watched", level, link::OPEN, 1601)
+    arrives(to, b"data after 600, watched", level, link::OPEN, 7, 1600)?;
+    arrives(to, b"data after 601, watched", level, link::OPEN, 7, 1601)?;
+    passes(
+        to,
+        b"tick after 249, half less one",
+        level,
+        link::OPEN,
+        1249,
+    )?;
+    passes(to, b"tick after 250, half", level, link::OPEN, 1250)?;
+    passes(to, b"tick after 600, watched", level, link::OPEN, 1600)?;
+    passes(to, b"tick after 601, watched", level, link::OPEN, 1601)
 }
 
 pub(crate) fn limits(to: &mut impl Write, level: u32) -> io::Result<()> {

@@ -22,25 +22,25 @@ use std::io::{BufWriter, Write};
 fn at_level(to: &mut impl Write, level: u32) -> io::Result<()> {
     shown::heading(
         to,
-        "Set-up and talk, random numbers of 5.3.1.6, level ",
+        b"Set-up and talk, random numbers of 5.3.1.6, level ",
         level,
     )?;
     talk::conversation(to, level, 0x0123_4567, 0x89AB_CDEF)?;
     shown::heading(
         to,
-        "Set-up and talk, both random numbers FFFFFFFFh, level ",
+        b"Set-up and talk, both random numbers FFFFFFFFh, level ",
         level,
     )?;
     talk::conversation(to, level, 0xFFFF_FFFF, 0xFFFF_FFFF)?;
-    shown::heading(to, "Idle times named and not, level ", level)?;
+    shown::heading(to, b"Idle times named and not, level ", level)?;
     named::idle_times(to, level)?;
-    shown::heading(to, "Limits of waits and watch, level ", level)?;
+    shown::heading(to, b"Limits of waits and watch, level ", level)?;
     limits::limits(to, level)?;
-    shown::heading(to, "Rules that are easy to miss, level ", level)?;
+    shown::heading(to, b"Rules that are easy to miss, level ", level)?;
     rules::rules(to, level)?;
-    shown::heading(to, "Refusals, level ", level)?;
+    shown::heading(to, b"Refusals, level ", level)?;
     refusals::refusals(to, level)?;
-    shown::heading(to, "Cells of 5.5.1.5, level ", level)?;
+    shown::heading(to, b"Cells of 5.5.1.5, level ", level)?;
     cells::cells(to, level)
 }
 

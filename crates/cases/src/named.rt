@@ -5,7 +5,7 @@ use link::IdleTime;
 use std::io;
 use std::io::Write;
 
-fn opening(to: &mut impl Write, name: &str, level: u32, idle: IdleTime) -> io::Result<()> {
+fn opening(to: &mut impl Write, name: &[u8], level: u32, idle: IdleTime) -> io::Result<()> {
     let mut out = [0u8; 244];
     opens(
         to,
@@ -19,7 +19,7 @@ fn opening(to: &mut impl Write, name: &str, level: u32, idle: IdleTime) -> io::R
 }
 
 // A request of node 1's, confirmed by node 8.
-fn confirming(to: &mut impl Write, name: &str, level: u32, idle: IdleTime) -> io::Result<()> {
+fn confirming(to: &mut impl Write, name: &[u8], level: u32, idle: IdleTime) -> io::Result<()> {
     let mut request = [0u8; 244];
     let mut out = [0u8; 244];
     let side = in_phase(level, link::CLOSED);
@@ -29,17 +29,17 @@ fn confirming(to: &mut impl Write, name: &str, level: u32, idle: IdleTime) -> io
 }
 
 pub(crate) fn idle_times(to: &mut impl Write, level: u32) -> io::Result<()> {
-    opening(to, "open, none named", level, link::idle_time_by(0, 0))?;
-    opening(to, "open, 0 named", level, link::idle_time_by(1, 0))?;
-    opening(to, "open, 1000 named", level, link::idle_time_by(1, 1000))?;
-    opening(to, "open, 150 named", level, link::idle_time_by(1, 150))?;
-    confirming(to, "confirm, none named", level, link::idle_time_by(0, 0))?;
-    confirming(to, "confirm, 0 named", level, link::idle_time_by(1, 0))?;
+    opening(to, b"open, none named", level, link::idle_time_by(0, 0))?;
+    opening(to, b"open, 0 named", level, link::idle_time_by(1, 0))?;
+    opening(to, b"open, 1000 named", level, link::idle_time_by(1, 1000))?;
+    opening(to, b"open, 150 named", level, link::idle_time_by(1, 150))?;
+    confirming(to, b"confirm, none named", level, link::idle_time_by(0, 0))?;
+    confirming(to, b"confirm, 0 named", level, link::idle_time_by(1, 0))?;
     confirming(
         to,
-        "confirm, 1000 named",
+        b"confirm, 1000 named",
         level,
         link::idle_time_by(1, 1000),
     )?;
-    confirming(to, "confirm, 150 named", level, link::idle_time_by(1, 150))
+    confirming(to, b"confirm, 150 named", level, link::idle_time_by(1, 150))
 }

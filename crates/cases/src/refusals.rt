@@ -30,9 +30,9 @@ fn zeroed() -> Side {
 
 // The calls that the layer above makes, on one record and into a buffer of the caller's.
 fn asked(to: &mut impl Write, side: Side, out: &mut [u8]) -> io::Result<()> {
-    opens(to, "  open", side, 1100, link::idle_time_by(1, 500), out)?;
-    sends(to, "  send", side, 1100, 0x09, b"net", out)?;
-    closes(to, "  close", side, 1, 0, out)?;
+    opens(to, b"  open", side, 1100, link::idle_time_by(1, 500), out)?;
+    sends(to, b"  send", side, 1100, 0x09, b"net", out)?;
+    closes(to, b"  close", side, 1, 0, out)?;
     Ok(())
 }
 
@@ -40,8 +40,8 @@ fn asked(to: &mut impl Write, side: Side, out: &mut [u8]) -> io::Result<()> {
 fn met(to: &mut impl Write, level: u32, side: Side, out: &mut [u8]) -> io::Result<()> {
     let mut telegram = [0u8; 244];
     let length = telegram_for(in_phase(level, link::OPEN), 6, &mut telegram);
-    takes(to, "  received", side, 1100, &telegram, length, out)?;
-    ticks(to, "  tick", side, 1100, out)?;
+    takes(to, b"  received", side, 1100, &telegram, length, out)?;
+    ticks(to, b"  tick", side, 1100, out)?;
     Ok(())
 }
 
@@ -56,26 +56,26 @@ fn lengths(to: &mut impl Write, level: u32) -> io::Result<()> {
     let run = [0u8; 245];
     let mut out = [0u8; 244];
     let side = in_phase(level, link::OPEN);
-    takes(to, "telegram of 0", side, 1100, &run, 0, &mut out)?;
-    takes(to, "telegram of 5", side, 1100, &run, 5, &mut out)?;
-    takes(to, "telegram of 6", side, 1100, &run, 6, &mut out)?;
-    takes(to, "telegram of 244", side, 1100, &run, 244, &mut out)?;
-    takes(to, "telegram of 245", side, 1100, &run, 245, &mut out)?;
+    takes(to, b"telegram of 0", side, 1100, &run, 0, &mut out)?;
+    takes(to, b"telegram of 5", side, 1100, &run, 5, &mut out)?;
+    takes(to, b"telegram of 6", side, 1100, &run, 6, &mut out)?;
+    takes(to, b"telegram of 244", side, 1100, &run, 244, &mut out)?;
+    takes(to, b"telegram of 245", side, 1100, &run, 245, &mut out)?;
     Ok(())
 }
 
 pub(crate) fn refusals(to: &mut impl Write, level: u32) -> io::Result<()> {
     let mut out = [0u8; 244];
     let mut short = [0u8; 243];
-    shown::words(to, "zeroed record\n")?;
+    shown::words(to, b"zeroed record\n")?;
     every_call(to, level, zeroed(), &mut out)?;
-    shown::words(to, "open record, buffer of 243\n")?;
+    shown::words(to, b"open record, buffer of 243\n")?;
     every_call(to, level, in_phase(level, link::OPEN), &mut short)?;
-    shown::words(to, "finally closed record\n")?;
+    shown::words(to, b"finally closed record\n")?;
     every_call(to, level, in_phase(level, link::FINALLY_CLOSED), &mut out)?;
-    shown::words(to, "open record\n")?;
+    shown::words(to, b"open record\n")?;
     every_call(to, level, in_phase(level, link::OPEN), &mut out)?;
-    shown::words(to, "closed record\n")?;
+    shown::words(to, b"closed record\n")?;
     every_call(to, level, in_phase(level, link::CLOSED), &mut out)?;
     lengths(to, level)
 }

@@ -6,7 +6,13 @@ use std::io;
 use std::io::Write;
 
 // Good data on an open record, with this much net data lent for a confirm that is not sent.
-fn lent(to: &mut impl Write, name: &str, level: u32, idle: IdleTime, net: &[u8]) -> io::Result<()> {
+fn lent(
+    to: &mut impl Write,
+    name: &[u8],
+    level: u32,
+    idle: IdleTime,
+    net: &[u8],
+) -> io::Result<()> {
     let mut telegram = [0u8; 244];
     let mut out = [0u8; 244];
     let side = in_phase(level, link::OPEN);
@@ -18,13 +24,13 @@ fn lent(to: &mut impl Write, name: &str, level: u32, idle: IdleTime, net: &[u8])
 fn lent_net(to: &mut impl Write, level: u32) -> io::Result<()> {
     let net = [0xAAu8; 240];
     let idle = link::idle_time_by(0, 0);
-    lent(to, "data, 226 bytes lent", level, idle, &net[..226])?;
-    lent(to, "data, 227 bytes lent", level, idle, &net[..227])?;
-    lent(to, "data, 228 bytes lent", level, idle, &net[..228])?;
-    lent(to, "data, 229 bytes lent", level, idle, &net[..229])?;
+    lent(to, b"data, 226 bytes lent", level, idle, &net[..226])?;
+    lent(to, b"data, 227 bytes lent", level, idle, &net[..227])?;
+    lent(to, b"data, 228 bytes lent", level, idle, &net[..228])?;
+    lent(to, b"data, 229 bytes lent", level, idle, &net[..229])?;
     lent(
         to,
-        "data, idle time 150 named",
+        b"data, idle time 150 named",
         level,
         link::idle_time_by(1, 150),
         b"",
@@ -36,7 +42,7 @@ fn unwatched(to: &mut impl Write, level: u32) -> io::Result<()> {
     let mut out = [0u8; 244];
     sends(
         to,
-        "send after the watch",
+        b"send after the watch",
         in_phase(level, link::OPEN),
         1601,
         0x09,
@@ -45,7 +51,7 @@ fn unwatched(to: &mut impl Write, level: u32) -> io::Result<()> {
     )?;
     sends(
         to,
-        "send after 5001",
+        b"send after 5001",
         in_phase(level, link::OPEN),
         6001,
         0x09,
@@ -54,7 +60,7 @@ fn unwatched(to: &mut impl Write, level: u32) -> io::Result<()> {
     )?;
     closes(
         to,
-        "close of an open record",
+        b"close of an open record",
         in_phase(level, link::OPEN),
         1,
         0x1F,
@@ -62,7 +68,7 @@ fn unwatched(to: &mut impl Write, level: u32) -> io::Result<()> {
     )?;
     closes(
         to,
-        "close before the confirm",
+        b"close before the confirm",
         in_phase(level, link::CONFIRM_AWAITED),
         1,
         0,
@@ -70,7 +76,7 @@ fn unwatched(to: &mut impl Write, level: u32) -> io::Result<()> {
     )?;
     closes(
         to,
-        "close before authentication",
+        b"close before authentication",
         in_phase(level, link::AUTHENTICATION_AWAITED),
         0,
         0x40,
@@ -78,7 +84,7 @@ fn unwatched(to: &mut impl Write, level: u32) -> io::Result<()> {
     )?;
     closes(
         to,
-        "close, reason 08h",
+        b"close, reason 08h",
         in_phase(level, link::OPEN),
         1,
         0x08,
@@ -86,7 +92,7 @@ fn unwatched(to: &mut impl Write, level: u32) -> io::Result<()> {
     )?;
     closes(
         to,
-        "close, type 2",
+        b"close, type 2",
         in_phase(level, link::OPEN),
         2,
         0,
@@ -98,7 +104,7 @@ fn unwatched(to: &mut impl Write, level: u32) -> io::Result<()> {
 // A disconnect under a number, on a record that awaits its confirm.
 fn disconnected(
     to: &mut impl Write,
-    name: &str,
+    name: &[u8],
     level: u32,
     number: u32,
     new_setup: u32,
@@ -128,12 +134,12 @@ fn disconnected(
 fn commands(to: &mut impl Write, level: u32) -> io::Result<()> {
     let mut out = [0u8; 244];
     let side = in_phase(level, link::OPEN);
-    sends(to, "send, command 09h", side, 1100, 0x09, b"net", &mut out)?;
-    sends(to, "send, command 20h", side, 1100, 0x20, b"net", &mut out)?;
-    sends(to, "send, command 89h", side, 1100, 0x89, b"net", &mut out)?;
-    sends(to, "send, command 0Dh", side, 1100, 0x0D, b"net", &mut out)?;
-    sends(to, "send, command 06h", side, 1100, 0x06, b"net", &mut out)?;
-    sends(to, "send, command 40h", side, 1100, 0x40, b"net", &mut out)?;
+    sends(to, b"send, command 09h", side, 1100, 0x09, b"net", &mut out)?;
+    sends(to, b"send, command 20h", side, 1100, 0x20, b"net", &mut out)?;
+    sends(to, b"send, command 89h", side, 1100, 0x89, b"net", &mut out)?;
+    sends(to, b"send, command 0Dh", side, 1100, 0x0D, b"net", &mut out)?;
+    sends(to, b"send, command 06h", side, 1100, 0x06, b"net", &mut out)?;
+    sends(to, b"send, command 40h", side, 1100, 0x40, b"net", &mut out)?;
     Ok(())
 }
 
@@ -143,7 +149,7 @@ fn longest(to: &mut impl Write, level: u32) -> io::Result<()> {
     let side = in_phase(level, link::OPEN);
     sends(
         to,
-        "send 236 bytes",
+        b"send 236 bytes",
         side,
         1100,
         0x09,
@@ -152,7 +158,7 @@ fn longest(to: &mut impl Write, level: u32) -> io::Result<()> {
     )?;
     sends(
         to,
-        "send 237 bytes",
+        b"send 237 bytes",
         side,
         1100,
         0x09,
@@ -161,7 +167,7 @@ fn longest(to: &mut impl Write, level: u32) -> io::Result<()> {
     )?;
     sends(
         to,
-        "send 238 bytes",
+        b"send 238 bytes",
         side,
         1100,
         0x09,
@@ -170,7 +176,7 @@ fn longest(to: &mut impl Write, level: u32) -> io::Result<()> {
     )?;
     sends(
         to,
-        "send 239 bytes",
+        b"send 239 bytes",
         side,
         1100,
         0x09,
@@ -183,15 +189,15 @@ fn longest(to: &mut impl Write, level: u32) -> io::Result<()> {
 pub(crate) fn rules(to: &mut impl Write, level: u32) -> io::Result<()> {
     lent_net(to, level)?;
     unwatched(to, level)?;
-    disconnected(to, "disconnect 0 before the confirm, final", level, 0, 0)?;
+    disconnected(to, b"disconnect 0 before the confirm, final", level, 0, 0)?;
     disconnected(
         to,
-        "disconnect 0 before the confirm, not final",
+        b"disconnect 0 before the confirm, not final",
         level,
         0,
         1,
     )?;
-    disconnected(to, "disconnect 1 before the confirm, final", level, 1, 0)?;
+    disconnected(to, b"disconnect 1 before the confirm, final", level, 1, 0)?;
     commands(to, level)?;
     longest(to, level)
 }

@@ -15,7 +15,7 @@ pub(crate) struct Side {
 }
 
 // Shows a step, and keeps what it leaves.
-fn shown(to: &mut impl Write, name: &str, side: Side, step: Step, out: &[u8]) -> io::Result<Side> {
+fn shown(to: &mut impl Write, name: &[u8], side: Side, step: Step, out: &[u8]) -> io::Result<Side> {
     line(to, name, step, out)?;
     let record = step.record;
     let answer = step.answer;
@@ -29,7 +29,7 @@ fn shown(to: &mut impl Write, name: &str, side: Side, step: Step, out: &[u8]) ->
 
 pub(crate) fn opens(
     to: &mut impl Write,
-    name: &str,
+    name: &[u8],
     side: Side,
     time: u64,
     idle: IdleTime,
@@ -42,7 +42,7 @@ pub(crate) fn opens(
 
 pub(crate) fn closes(
     to: &mut impl Write,
-    name: &str,
+    name: &[u8],
     side: Side,
     new_setup: u32,
     reason: u32,
@@ -55,7 +55,7 @@ pub(crate) fn closes(
 
 pub(crate) fn sends(
     to: &mut impl Write,
-    name: &str,
+    name: &[u8],
     side: Side,
     time: u64,
     command: u32,
@@ -69,7 +69,7 @@ pub(crate) fn sends(
 
 pub(crate) fn ticks(
     to: &mut impl Write,
-    name: &str,
+    name: &[u8],
     side: Side,
     time: u64,
     out: &mut [u8],
@@ -82,7 +82,7 @@ pub(crate) fn ticks(
 // Takes the front of a run as a telegram, and lends what a confirm would need.
 pub(crate) fn takes_lent(
     to: &mut impl Write,
-    name: &str,
+    name: &[u8],
     side: Side,
     time: u64,
     idle: IdleTime,
@@ -112,7 +112,7 @@ pub(crate) fn takes_lent(
 // The same with an idle time of 500 named and no net data lent.
 pub(crate) fn takes(
     to: &mut impl Write,
-    name: &str,
+    name: &[u8],
     side: Side,
     time: u64,
     run: &[u8],

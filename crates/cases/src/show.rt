@@ -5,7 +5,7 @@ use std::io;
 use std::io::Write;
 
 // What a step left, without the end of the line.
-fn outcome(to: &mut impl Write, name: &str, step: Step) -> io::Result<()> {
+fn outcome(to: &mut impl Write, name: &[u8], step: Step) -> io::Result<()> {
     let answer = step.answer;
     let event = step.event;
     let record = step.record;
@@ -15,9 +15,9 @@ fn outcome(to: &mut impl Write, name: &str, step: Step) -> io::Result<()> {
     left(to, record)
 }
 
-pub(crate) fn line(to: &mut impl Write, name: &str, step: Step, out: &[u8]) -> io::Result<()> {
+pub(crate) fn line(to: &mut impl Write, name: &[u8], step: Step, out: &[u8]) -> io::Result<()> {
     outcome(to, name, step)?;
     let answer = step.answer;
     short(to, answer.length as usize, out)?;
-    words(to, "\n")
+    words(to, b"\n")
 }

@@ -15,7 +15,7 @@ pub(crate) fn conversation(
     let idle = link::idle_time_by(1, 500);
     let asking = opens(
         to,
-        "8 opens",
+        b"8 opens",
         node_8(level, random_8),
         1000,
         idle,
@@ -24,7 +24,7 @@ pub(crate) fn conversation(
     let waiting = node_1(level, random_1);
     let asked = takes_lent(
         to,
-        "1 confirms",
+        b"1 confirms",
         waiting,
         1100,
         idle,
@@ -35,7 +35,7 @@ pub(crate) fn conversation(
     )?;
     let proving = takes(
         to,
-        "8 authenticates",
+        b"8 authenticates",
         asking,
         1200,
         &back,
@@ -44,7 +44,7 @@ pub(crate) fn conversation(
     )?;
     let called = takes(
         to,
-        "1 acknowledges",
+        b"1 acknowledges",
         asked,
         1300,
         &there,
@@ -53,7 +53,7 @@ pub(crate) fn conversation(
     )?;
     let caller = takes(
         to,
-        "8 is open",
+        b"8 is open",
         proving,
         1400,
         &back,
@@ -67,20 +67,28 @@ pub(crate) fn conversation(
 fn data(to: &mut impl Write, caller: Side, called: Side) -> io::Result<()> {
     let mut there = [0u8; 244];
     let mut back = [0u8; 244];
-    let sent = sends(to, "8 sends data", caller, 1500, 0x09, b"there", &mut there)?;
+    let sent = sends(
+        to,
+        b"8 sends data",
+        caller,
+        1500,
+        0x09,
+        b"there",
+        &mut there,
+    )?;
     let taken = takes(
         to,
-        "1 takes data",
+        b"1 takes data",
         called,
         1510,
         &there,
         sent.length,
         &mut back,
     )?;
-    let answering = sends(to, "1 sends data", taken, 1600, 0x3F, b"", &mut back)?;
+    let answering = sends(to, b"1 sends data", taken, 1600, 0x3F, b"", &mut back)?;
     let answered = takes(
         to,
-        "8 takes data",
+        b"8 takes data",
         sent,
         1610,
         &back,
@@ -94,20 +102,20 @@ fn data(to: &mut impl Write, caller: Side, called: Side) -> io::Result<()> {
 fn idle(to: &mut impl Write, caller: Side, called: Side) -> io::Result<()> {
     let mut there = [0u8; 244];
     let mut back = [0u8; 244];
-    let sent = ticks(to, "8 sends idle", caller, 1750, &mut there)?;
+    let sent = ticks(to, b"8 sends idle", caller, 1750, &mut there)?;
     let taken = takes(
         to,
-        "1 takes idle",
+        b"1 takes idle",
         called,
         1760,
         &there,
         sent.length,
         &mut back,
     )?;
-    let answering = ticks(to, "1 sends idle", taken, 1850, &mut back)?;
+    let answering = ticks(to, b"1 sends idle", taken, 1850, &mut back)?;
     let answered = takes(
         to,
-        "8 takes idle",
+        b"8 takes idle",
         sent,
         1860,
         &back,
@@ -122,10 +130,10 @@ fn idle(to: &mut impl Write, caller: Side, called: Side) -> io::Result<()> {
 fn ending(to: &mut impl Write, caller: Side, called: Side, new_setup: u32) -> io::Result<()> {
     let mut there = [0u8; 244];
     let mut back = [0u8; 244];
-    let closed = closes(to, "8 closes", caller, new_setup, 0, &mut there)?;
+    let closed = closes(to, b"8 closes", caller, new_setup, 0, &mut there)?;
     takes(
         to,
-        "1 is closed",
+        b"1 is closed",
         called,
         1910,
         &there,

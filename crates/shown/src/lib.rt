@@ -6,17 +6,18 @@ use link::{Answer, Event, Record};
 use std::io;
 use std::io::Write;
 
-pub fn words(to: &mut impl Write, text: &str) -> io::Result<()> {
-    write!(to, "{text}")
+pub fn words(to: &mut impl Write, text: &[u8]) -> io::Result<()> {
+    to.write_all(text)
 }
 
-pub fn number(to: &mut impl Write, name: &str, n: u32) -> io::Result<()> {
-    write!(to, "{name}{n}")
+pub fn number(to: &mut impl Write, name: &[u8], n: u32) -> io::Result<()> {
+    words(to, name)?;
+    write!(to, "{n}")
 }
 
-pub fn heading(to: &mut impl Write, name: &str, level: u32) -> io::Result<()> {
+pub fn heading(to: &mut impl Write, name: &[u8], level: u32) -> io::Result<()> {
     number(to, name, level)?;
-    words(to, "\n")
+    words(to, b"\n")
 }
 
 fn bytes(to: &mut impl Write, run: &[u8]) -> io::Result<()> {
@@ -26,40 +27,41 @@ fn bytes(to: &mut impl Write, run: &[u8]) -> io::Result<()> {
     Ok(())
 }
 
-fn hex(to: &mut impl Write, name: &str, n: u32) -> io::Result<()> {
-    write!(to, "{name}{n:08x}")
+fn hex(to: &mut impl Write, name: &[u8], n: u32) -> io::Result<()> {
+    words(to, name)?;
+    write!(to, "{n:08x}")
 }
 
 // An answer: its number, the telegram written and its length.
 pub fn answered(to: &mut impl Write, answer: Answer) -> io::Result<()> {
-    number(to, ": answer ", answer.number)?;
-    number(to, " telegram ", answer.telegram)?;
-    number(to, " of ", answer.length)
+    number(to, b": answer ", answer.number)?;
+    number(to, b" telegram ", answer.telegram)?;
+    number(to, b" of ", answer.length)
 }
 
 // The event, and the values that it has.
 pub fn happened(to: &mut impl Write, event: Event) -> io::Result<()> {
     let h = link::happened_as(event);
-    number(to, " event ", h.event)?;
+    number(to, b" event ", h.event)?;
     if h.event == 2 {
-        number(to, " command ", h.command)?;
-        number(to, " start ", h.start)?;
-        number(to, " count ", h.count)?;
+        number(to, b" command ", h.command)?;
+        number(to, b" start ", h.start)?;
+        number(to, b" count ", h.count)?;
     }
     if h.event == 3 {
-        number(to, " reason ", h.reason)?;
-        number(to, " last ", h.last)?;
+        number(to, b" reason ", h.reason)?;
+        number(to, b" last ", h.last)?;
     }
     Ok(())
 }
 
 // What a record is.
 pub fn left(to: &mut impl Write, record: Record) -> io::Result<()> {
-    number(to, " phase ", record.phase)?;
-    hex(to, " sending ", record.sending)?;
-    hex(to, " expected ", record.expected)?;
-    number(to, " declared ", record.declared)?;
-    number(to, " watched ", record.watched)
+    number(to, b" phase ", record.phase)?;
+    hex(to, b" sending ", record.sending)?;
+    hex(to, b" expected ", record.expected)?;
+    number(to, b" declared ", record.declared)?;
+    number(to, b" watched ", record.watched)
 }
 
 // The longest telegram whose bytes are printed.
@@ -76,6 +78,6 @@ pub fn short(to: &mut impl Write, length: usize, out: &[u8]) -> io::Result<()> {
     if out.len() < length {
         return Ok(());
     }
-    words(to, " bytes ")?;
+    words(to, b" bytes ")?;
     bytes(to, &out[..length])
 }

@@ -44,10 +44,10 @@ fn set_up(
 ) -> io::Result<Pair> {
     let mut there = [0u8; 244];
     let mut back = [0u8; 244];
-    let asking = opens(to, "module opens", m, start, 0, b"", &mut there)?;
+    let asking = opens(to, b"module opens", m, start, 0, b"", &mut there)?;
     let asked = takes(
         to,
-        "computer confirms",
+        b"computer confirms",
         c,
         start,
         sender,
@@ -57,7 +57,7 @@ fn set_up(
     )?;
     let proving = takes(
         to,
-        "module authenticates",
+        b"module authenticates",
         asking,
         start,
         1,
@@ -67,7 +67,7 @@ fn set_up(
     )?;
     let computer = takes(
         to,
-        "computer acknowledges",
+        b"computer acknowledges",
         asked,
         start,
         sender,
@@ -77,7 +77,7 @@ fn set_up(
     )?;
     let module = takes(
         to,
-        "module is open",
+        b"module is open",
         proving,
         start,
         1,
@@ -105,7 +105,7 @@ fn exchanged(s: Station) -> Station {
 // The computer takes a telegram from this address.
 fn taken_from(
     to: &mut impl Write,
-    name: &str,
+    name: &[u8],
     c: Station,
     sender: u32,
     run: &[u8],
@@ -121,7 +121,7 @@ fn data(to: &mut impl Write, c: Station, m: Station) -> io::Result<()> {
     let mut there = [0u8; 244];
     let sent = sends(
         to,
-        "module 8 sends data",
+        b"module 8 sends data",
         m,
         1300,
         0,
@@ -130,10 +130,10 @@ fn data(to: &mut impl Write, c: Station, m: Station) -> io::Result<()> {
         &mut there,
     )?;
     let length = sent.length;
-    taken_from(to, "computer takes it from 8", c, 8, &there, length)?;
+    taken_from(to, b"computer takes it from 8", c, 8, &there, length)?;
     taken_from(
         to,
-        "computer, card 8 in the place of 9",
+        b"computer, card 8 in the place of 9",
         c,
         9,
         &there,
@@ -142,7 +142,7 @@ fn data(to: &mut impl Write, c: Station, m: Station) -> io::Result<()> {
     let changed = exchanged(c);
     taken_from(
         to,
-        "computer, records exchanged",
+        b"computer, records exchanged",
         changed,
         8,
         &there,
@@ -154,11 +154,11 @@ fn data(to: &mut impl Write, c: Station, m: Station) -> io::Result<()> {
 fn idle(to: &mut impl Write, c: Station, m: Station) -> io::Result<()> {
     let mut there = [0u8; 244];
     let mut back = [0u8; 244];
-    let early = ticks(to, "computer ticks 9 early", c, 1349, 1, &mut back)?;
-    let idle = ticks(to, "computer ticks 9", early, 1350, 1, &mut back)?;
+    let early = ticks(to, b"computer ticks 9 early", c, 1349, 1, &mut back)?;
+    let idle = ticks(to, b"computer ticks 9", early, 1350, 1, &mut back)?;
     let taken = takes(
         to,
-        "module 9 takes idle",
+        b"module 9 takes idle",
         m,
         1350,
         1,
@@ -173,10 +173,10 @@ fn idle(to: &mut impl Write, c: Station, m: Station) -> io::Result<()> {
 fn ending(to: &mut impl Write, c: Station, m: Station) -> io::Result<()> {
     let mut there = [0u8; 244];
     let mut back = [0u8; 244];
-    let closed = closes(to, "computer closes 9 finally", c, 1400, 1, 0, &mut back)?;
+    let closed = closes(to, b"computer closes 9 finally", c, 1400, 1, 0, &mut back)?;
     takes(
         to,
-        "module 9 is closed finally",
+        b"module 9 is closed finally",
         m,
         1400,
         1,
@@ -184,7 +184,7 @@ fn ending(to: &mut impl Write, c: Station, m: Station) -> io::Result<()> {
         closed.length,
         &mut there,
     )?;
-    ticks(to, "computer ticks 8 late", closed, 1601, 0, &mut there)?;
+    ticks(to, b"computer ticks 8 late", closed, 1601, 0, &mut there)?;
     Ok(())
 }
 

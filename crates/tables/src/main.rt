@@ -25,9 +25,9 @@ pub struct Left {
 }
 
 fn at_level(to: &mut impl Write, level: u32) -> io::Result<()> {
-    shown::heading(to, "A computer and two modules, level ", level)?;
+    shown::heading(to, b"A computer and two modules, level ", level)?;
     cards::cards(to, level)?;
-    shown::heading(to, "Refusals of the calls, level ", level)?;
+    shown::heading(to, b"Refusals of the calls, level ", level)?;
     refusals::refusals(to, level)
 }
 

@@ -23,15 +23,15 @@ fn of_table(to: &mut impl Write, fresh: Station, asking: Station) -> io::Result<
     let mut small = [0u8; 243];
     opens(
         to,
-        "1 two records alike",
+        b"1 two records alike",
         alike(fresh),
         1000,
         0,
         b"",
         &mut there,
     )?;
-    opens(to, "4 no room", fresh, 1000, 0, b"", &mut small)?;
-    opens(to, "7 time goes back", asking, 999, 1, b"", &mut there)?;
+    opens(to, b"4 no room", fresh, 1000, 0, b"", &mut small)?;
+    opens(to, b"7 time goes back", asking, 999, 1, b"", &mut there)?;
     Ok(())
 }
 
@@ -40,7 +40,7 @@ fn of_place(to: &mut impl Write, asking: Station) -> io::Result<()> {
     let mut there = [0u8; 244];
     takes(
         to,
-        "6 telegram of five bytes",
+        b"6 telegram of five bytes",
         asking,
         1000,
         1,
@@ -50,7 +50,7 @@ fn of_place(to: &mut impl Write, asking: Station) -> io::Result<()> {
     )?;
     takes(
         to,
-        "2 a sender in no record",
+        b"2 a sender in no record",
         asking,
         1000,
         3,
@@ -60,7 +60,7 @@ fn of_place(to: &mut impl Write, asking: Station) -> io::Result<()> {
     )?;
     opens(
         to,
-        "2 a place past the table",
+        b"2 a place past the table",
         asking,
         1000,
         2,
@@ -73,12 +73,12 @@ fn of_place(to: &mut impl Write, asking: Station) -> io::Result<()> {
 // What concerns the record.
 fn of_record(to: &mut impl Write, asking: Station) -> io::Result<()> {
     let mut there = [0u8; 244];
-    let ended = closes(to, "closes finally", asking, 1000, 0, 0, &mut there)?;
-    opens(to, "8 finally closed", ended, 1000, 0, b"", &mut there)?;
-    opens(to, "3 not closed", asking, 1000, 0, b"", &mut there)?;
+    let ended = closes(to, b"closes finally", asking, 1000, 0, 0, &mut there)?;
+    opens(to, b"8 finally closed", ended, 1000, 0, b"", &mut there)?;
+    opens(to, b"3 not closed", asking, 1000, 0, b"", &mut there)?;
     closes(
         to,
-        "5 a type that there is not",
+        b"5 a type that there is not",
         asking,
         1000,
         0,
@@ -92,11 +92,11 @@ fn of_record(to: &mut impl Write, asking: Station) -> io::Result<()> {
 fn several(to: &mut impl Write, asking: Station) -> io::Result<()> {
     let mut there = [0u8; 244];
     let mut small = [0u8; 243];
-    opens(to, "4, 7 and 2 at once", asking, 999, 2, b"", &mut small)?;
-    opens(to, "7 and 2 at once", asking, 999, 2, b"", &mut there)?;
+    opens(to, b"4, 7 and 2 at once", asking, 999, 2, b"", &mut small)?;
+    opens(to, b"7 and 2 at once", asking, 999, 2, b"", &mut there)?;
     sends(
         to,
-        "3 and 5 at once",
+        b"3 and 5 at once",
         asking,
         1000,
         1,
@@ -110,7 +110,7 @@ fn several(to: &mut impl Write, asking: Station) -> io::Result<()> {
 pub(crate) fn refusals(to: &mut impl Write, level: u32) -> io::Result<()> {
     let mut there = [0u8; 244];
     let fresh = module(8, level);
-    let asking = opens(to, "opens", fresh, 1000, 0, b"", &mut there)?;
+    let asking = opens(to, b"opens", fresh, 1000, 0, b"", &mut there)?;
     of_table(to, fresh, asking)?;
     of_place(to, asking)?;
     of_record(to, asking)?;

@@ -5,7 +5,12 @@ use std::io;
 use std::io::Write;
 
 // A call as a line: the answer, the event, the latest time, and what each of the two records is afterwards.
-pub(crate) fn call_line(to: &mut impl Write, name: &str, call: Left, out: &[u8]) -> io::Result<()> {
+pub(crate) fn call_line(
+    to: &mut impl Write,
+    name: &[u8],
+    call: Left,
+    out: &[u8],
+) -> io::Result<()> {
     let o = call.outcome;
     let answer = o.answer;
     let event = o.event;
@@ -14,12 +19,12 @@ pub(crate) fn call_line(to: &mut impl Write, name: &str, call: Left, out: &[u8])
     answered(to, answer)?;
     happened(to, event)?;
     write!(to, " latest {}", head.latest)?;
-    words(to, "; first")?;
+    words(to, b"; first")?;
     left(to, call.first)?;
-    words(to, "; second")?;
+    words(to, b"; second")?;
     left(to, call.second)?;
     short(to, answer.length as usize, out)?;
-    words(to, "\n")
+    words(to, b"\n")
 }
 
 // The net data that an event hands on.
@@ -27,7 +32,7 @@ pub(crate) fn net_line(to: &mut impl Write, net: &[u8]) -> io::Result<()> {
     if net.len() == 0 {
         return Ok(());
     }
-    words(to, "  net data ")?;
+    words(to, b"  net data ")?;
     to.write_all(net)?;
-    words(to, "\n")
+    words(to, b"\n")
 }

@@ -21,7 +21,7 @@ pub(crate) struct Station {
 // Shows a call, and keeps what it leaves.
 fn shown(
     to: &mut impl Write,
-    name: &str,
+    name: &[u8],
     random: u32,
     call: Left,
     out: &[u8],
@@ -43,7 +43,7 @@ fn shown(
 
 pub(crate) fn opens(
     to: &mut impl Write,
-    name: &str,
+    name: &[u8],
     s: Station,
     time: u64,
     place: usize,
@@ -60,7 +60,7 @@ pub(crate) fn opens(
 
 pub(crate) fn closes(
     to: &mut impl Write,
-    name: &str,
+    name: &[u8],
     s: Station,
     time: u64,
     place: usize,
@@ -76,7 +76,7 @@ pub(crate) fn closes(
 
 pub(crate) fn sends(
     to: &mut impl Write,
-    name: &str,
+    name: &[u8],
     s: Station,
     time: u64,
     place: usize,
@@ -93,7 +93,7 @@ pub(crate) fn sends(
 
 pub(crate) fn ticks(
     to: &mut impl Write,
-    name: &str,
+    name: &[u8],
     s: Station,
     time: u64,
     place: usize,
@@ -109,7 +109,7 @@ pub(crate) fn ticks(
 // Takes a telegram that came from this sender, with SAP 3 on both sides, and shows the net data that it hands on.
 fn takes_telegram(
     to: &mut impl Write,
-    name: &str,
+    name: &[u8],
     s: Station,
     time: u64,
     sender: u32,
@@ -138,7 +138,7 @@ fn takes_telegram(
 // The same of the front of a run.
 pub(crate) fn takes(
     to: &mut impl Write,
-    name: &str,
+    name: &[u8],
     s: Station,
     time: u64,
     sender: u32,
