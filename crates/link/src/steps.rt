@@ -79,6 +79,7 @@ fn after_request(record: Record, time: u64, random: u32, declared: u32) -> Recor
 }
 
 // Opens a closed connection: a request goes out under the random number, and a confirm is awaited.
+#[tactic(auto, using(ground::specs::Choice::tests), unfolding(crate::specs::Steps::open_of, crate::specs::Steps::open_out, crate::specs::Steps::open_refusal))]
 pub fn open(
     record: Record,
     own: u32,
@@ -107,6 +108,7 @@ pub fn open(
 }
 
 // Closes a connection: a disconnect goes out with the layer above's type, reason and text.
+#[tactic(auto, using(ground::specs::Choice::tests), unfolding(crate::specs::Steps::close_of, crate::specs::Steps::close_out, crate::specs::Steps::close_refusal))]
 pub fn close(
     record: Record,
     own: u32,
@@ -140,6 +142,7 @@ pub fn close(
 }
 
 // Sends data on an open connection, under the command's low six bits. Neither wait nor watch is looked at.
+#[tactic(auto, using(ground::specs::Choice::tests), unfolding(crate::specs::Steps::send_of, crate::specs::Steps::send_out, crate::specs::Steps::send_refusal))]
 pub fn send(record: Record, own: u32, time: u64, command: u32, net: &[u8], out: &mut [u8]) -> Step
     ensures { (result ≡ send_of «record» own time command net.now out.old) × (out.new ≡ send_out «record» own command net.now out.old) }
 {
@@ -159,6 +162,7 @@ pub fn send(record: Record, own: u32, time: u64, command: u32, net: &[u8], out: 
 }
 
 // Takes a telegram. The random number, the idle time and the net data are for a possible confirm.
+#[tactic(auto, using(ground::specs::Choice::tests, crate::proofs::Cases::live_phase), unfolding(crate::specs::Steps::received_of, crate::specs::Steps::received_out, crate::specs::Steps::received_refusal))]
 pub fn received(
     record: Record,
     own: u32,
@@ -188,6 +192,7 @@ pub fn received(
 }
 
 // Lets time pass: a wait or watch that ran out closes, and an idle telegram goes out when it is due.
+#[tactic(auto, using(ground::specs::Choice::tests, crate::proofs::Cases::live_phase), unfolding(crate::specs::Steps::tick_of, crate::specs::Steps::tick_out, crate::specs::Steps::tick_refusal))]
 pub fn tick(record: Record, own: u32, time: u64, out: &mut [u8]) -> Step
     ensures { (result ≡ tick_of «record» own time out.old) × (out.new ≡ tick_out «record» own time out.old) }
 {

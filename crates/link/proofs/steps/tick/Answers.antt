@@ -1,21 +1,10 @@
--- `link::steps::tick` meets its contract: refused as it was, or what the verdict does.
+-- `link::steps::tick` meets its contract: what is let through asks for nothing that needs a telegram.
 -- Assumes nothing.
-use Rattle.std.proofs.Common.{true, refl, eq-eqb, ne_eqb}
-use Rattle.ground.specs.Choice.{yes, no}
+use Rattle.std.proofs.Common.{true, eq-eqb}
+use Rattle.ground.specs.Choice.{yes}
 use Rattle.link.specs.Steps.{tick_of, tick_out, tick_refusal}
 use Rattle.link.proofs.Cases.{live_phase, tick_asks}
 use Rattle.link.proofs.steps.tick.Goals as goal
-
-pub returns-then-answer-ne0 : goal.returns-then-answer-ne0
-unfolding tick_of tick_out tick_refusal
-returns-then-answer-ne0 c =
-    rw (← c.is_not-live.ensures, ← c.record_in_range-ranged.ensures, ← c.has_room-room.ensures, ← c.first_refusal-answer.ensures, c.refused_step.ensures)
-    (no _ _ _ _ (ne_eqb _ _ c.if-answer-ne0.true) refl, no _ _ _ _ (ne_eqb _ _ c.if-answer-ne0.true) refl)
-
-pub judge_tick-verdict-requires : goal.judge_tick-verdict-requires
-judge_tick-verdict-requires c =
-    live_phase c.args.record c.args.own c.first_refusal-answer.result c.has_room-room.result true true true
-    (rw (← c.is_not-live.ensures, ← c.record_in_range-ranged.ensures) c.first_refusal-answer.ensures) c.if-answer-ne0.false
 
 pub returns : goal.returns
 unfolding tick_of tick_out tick_refusal
