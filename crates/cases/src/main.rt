@@ -17,7 +17,7 @@ mod show;
 mod talk;
 
 use std::io;
-use std::io::{BufWriter, Write};
+use std::io::Write;
 
 fn at_level(to: &mut impl Write, level: u32) -> io::Result<()> {
     shown::heading(
@@ -45,8 +45,7 @@ fn at_level(to: &mut impl Write, level: u32) -> io::Result<()> {
 }
 
 fn main(rt: HostRuntime) -> io::Result<()> {
-    let mut page = BufWriter::new(rt.alloc(), io::writer(&rt))?;
+    let mut page = io::writer(&rt);
     at_level(&mut page, 4)?;
-    at_level(&mut page, 2)?;
-    page.flush()
+    at_level(&mut page, 2)
 }

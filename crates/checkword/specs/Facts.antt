@@ -1,6 +1,6 @@
 -- What is shown of the check word. The law and the burst fact are stated of any function f from bytes to a word, so that it can be said which of them a
 -- wrong word breaks; the others of the word over a width w and a generator g. proofs/Facts.antt proves each of them for every generator with the
--- degree of its check word and a constant term of one, under the same name in small letters, and all of them at 48 bits, `facts48`, and at 32, `facts32`.
+-- degree of its check word and a constant term of one, under the same name in snake case, and all of them at 48 bits, `facts48`, and at 32, `facts32`.
 -- Assumes nothing.
 use Rattle.std.specs.Prelude.{◌≡◌, List, ◌++◌, ℕ, ◌*◌, ◌/◌, ◌^◌, ◌<◌, length}
 use Rattle.std.specs.Int.Bits.{bit_xor}

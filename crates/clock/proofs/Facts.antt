@@ -1,4 +1,4 @@
--- The facts of specs/Facts.antt, each under its name in small letters. Those of the mean are in Rounding.antt, of moved clocks in Moving.antt and Starting.antt, of what a message can't do in
+-- The facts of specs/Facts.antt, each under its name in snake case. Those of the mean are in Rounding.antt, of moved clocks in Moving.antt and Starting.antt, of what a message can't do in
 -- Losing.antt; that of the bytes is here.
 -- Assumes nothing.
 use Rattle.std.proofs.Common.{◌≡◌, ℕ, ◌+◌, ◌*◌, ◌/◌, ◌%◌, ◌^◌, ◌<◌, arith}

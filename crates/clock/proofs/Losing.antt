@@ -127,7 +127,7 @@ module _ (c : Clock) (m : Message) (t : LocalTime) (j : Judged c m t) where
   unfolding pick
   judged_on e = judged_is ∙ rw e
 
-  -- where both times are later, the short_term test decides on the pair
+  -- where both times are later, the short-term test decides on the pair
   pair_near : is_following c.last m.number ≡ true → failing (later_tests (pair_by c m) (newest_of c.pairs)) ≡ 0
       → failing (tests_of_pair c m (mean_of c.pairs)) ≡ failing (near_tests (pair_by c m) (mean_of c.pairs))
   unfolding pick

@@ -1,4 +1,4 @@
--- What is shown of the clock. Each statement is proved under the same name in small letters in proofs/ (Rounding, Moving, Starting, Losing, Facts), and all of them are
+-- What is shown of the clock. Each statement is proved under the same name in snake case in proofs/ (Rounding, Moving, Starting, Losing, Facts), and all of them are
 -- `facts` in proofs/Facts.antt.
 -- Assumes nothing.
 use Rattle.std.specs.Prelude.{◌≡◌, ℕ, zero, suc, ◌+◌, ◌-◌, ◌/◌, ◌%◌, ◌^◌, ◌<◌, ◌≤◌, true, false, List, [], ◌∷◌, ◌++◌, map, length, ℤ, pos, negsuc, ◌+ℤ◌, ◌*ℤ◌, ◌≤ℤ◌, ◌≢◌}

@@ -1,7 +1,7 @@
 -- The scope, "How firm each promise is": for all inputs, refused ones too, the promise of a public function allows one result, one table and one buffer. There is
 -- a field for each public function of every library crate, under the function's name. In it stands the function's `ensures` as the source has it, said of any
 -- result and, of what was lent with `&mut`, any value left: x for `x.now` and `x.old`, x' for `x.new`. No public function has a `requires`, so the fields
--- speak of all values of the arguments. proofs/Unique.antt proves `Uniqueness` under the same name in small letters. The gate compares each field with its source.
+-- speak of all values of the arguments. proofs/Unique.antt proves `Uniqueness` under the same name in snake case. The gate compares each field with its source.
 -- Assumes nothing.
 use Rattle.std.specs.Prelude.{◌≡◌, Bool, List, ◌++◌, ℕ, get_or}
 use Rattle.std.specs.Int.Bits.{bit_xor}

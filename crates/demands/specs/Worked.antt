@@ -1,5 +1,5 @@
 -- The scope, "Worked numbers": the lines marked P as one list with one statement. Each line says what the paper prints of the definition that the contracts
--- use, with the paper's words above it. proofs/Worked.antt proves the statement under the same name in small letters.
+-- use, with the paper's words above it. proofs/Worked.antt proves the statement under the same name in snake case.
 -- Assumes nothing.
 use Rattle.std.specs.Prelude.{◌≡◌, true, false, List, [], ◌∷◌, ℕ, ◌≤◌, ◌<◌, length, drop, get_or}
 use Rattle.checkword.specs.Bytes.{Bytes}

@@ -1,5 +1,5 @@
-// What every crate may stand on: numbers of several bytes. specs/ has the choice by a test, with the rules by which a search takes it apart, and numbers as bytes; proofs/ the
-// steps of walks that know no type of ours.
+// What every crate may stand on: numbers of several bytes. specs/ has the choice by a test, with the rules by which a search takes it apart, and numbers as
+// bytes; proofs/ that a number past the end is 0.
 #![tactic(auto)]
 
 mod numbers;

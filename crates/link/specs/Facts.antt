@@ -1,4 +1,4 @@
--- What is shown of the steps. proofs/Facts.antt proves each statement under the same name in small letters.
+-- What is shown of the steps. proofs/Facts.antt proves each statement under the same name in snake case.
 -- Assumes nothing.
 use Rattle.std.specs.Prelude.{◌≡◌, ℕ, ◌+◌, ◌≤◌, Bool, true, false, List, [], ◌∷◌, ◌≢◌, nat_le, slice_index_or}
 use Rattle.ground.specs.Choice.{pick}

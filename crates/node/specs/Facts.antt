@@ -1,4 +1,4 @@
--- What is shown of the calls, said of any link. proofs/Facts.antt proves each statement of ours, `called`, under the same name in small letters.
+-- What is shown of the calls, said of any link. proofs/Facts.antt proves each statement of ours, `called`, under the same name in snake case.
 -- Assumes nothing.
 use Rattle.std.specs.Prelude.{◌≡◌, true, List, ℕ, ◌<◌, length}
 use Rattle.telegram.specs.NetData.{net_data}

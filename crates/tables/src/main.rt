@@ -14,7 +14,7 @@ mod station;
 use link::Record;
 use node::Outcome;
 use std::io;
-use std::io::{BufWriter, Write};
+use std::io::Write;
 
 // What a call over a table of two records left: the records, and the outcome.
 #[derive(Clone, Copy)]
@@ -32,8 +32,7 @@ fn at_level(to: &mut impl Write, level: u32) -> io::Result<()> {
 }
 
 fn main(rt: HostRuntime) -> io::Result<()> {
-    let mut page = BufWriter::new(rt.alloc(), io::writer(&rt))?;
+    let mut page = io::writer(&rt);
     at_level(&mut page, 4)?;
-    at_level(&mut page, 2)?;
-    page.flush()
+    at_level(&mut page, 2)
 }

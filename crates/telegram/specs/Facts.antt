@@ -1,5 +1,5 @@
 -- What is shown of telegrams: what each writer writes is taken by the mirrored end and reads back as it went in; and no telegram is taken by two ends that
--- it should be told apart for. proofs/Taken.antt and proofs/Apart.antt prove each statement under the same name in small letters.
+-- it should be told apart for. proofs/Taken.antt and proofs/Apart.antt prove each statement under the same name in snake case.
 -- Assumes nothing.
 use Rattle.std.specs.Prelude.{◌≡◌, List, [], ◌∷◌, ◌⊎◌, ℕ, ◌^◌, ◌<◌, length}
 use Rattle.checkword.specs.Bytes.{Bytes, Within}

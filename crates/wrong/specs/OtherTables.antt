@@ -1,5 +1,5 @@
 -- Wrong transition tables: one that the steps obey has in every cell the next state, the telegram and the handing up of ours, `reading`. Timers are not compared:
--- a cell with f_00 for f_10 or f_12 is not told apart. proofs/OtherTables.antt proves the statement under the same name in small letters.
+-- a cell with f_00 for f_10 or f_12 is not told apart. proofs/OtherTables.antt proves the statement under the same name in snake case.
 -- Assumes nothing.
 use Rattle.std.specs.Prelude.{◌≡◌, ℕ, ◌≤◌}
 use Rattle.link.specs.Table.{Cell, Row, reading}

@@ -1,5 +1,5 @@
 -- Wrong checks that pass more or less than the telegrams that there are, and of each the statement that demand 3 shuts it out. proofs/WrongChecks.antt proves each
--- statement by one telegram, under the same name in small letters.
+-- statement by one telegram, under the same name in snake case.
 -- Assumes nothing.
 use Rattle.std.specs.Prelude.{◌≡◌, Bool, true, List, ◌∷◌, ◌++◌, ℕ, suc, ◌%◌, ◌<◌, length, take, drop, get_or, leb, eqb}
 use Rattle.checkword.specs.Bytes.{Bytes}

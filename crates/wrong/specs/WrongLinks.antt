@@ -1,5 +1,5 @@
 -- Wrong links and wrong checks, each with a fault that somebody would make, and of each the statement that a demand shuts it out. proofs/WrongLinks.antt proves
--- each statement by one case, under the same name in small letters.
+-- each statement by one case, under the same name in snake case.
 -- Assumes nothing.
 use Rattle.std.specs.Prelude.{◌≡◌, Bool, true, false, List, [], ◌∷◌, ◌++◌, map, ℕ, ◌+◌, ◌-◌, ◌^◌, ◌<◌, length, take, drop, set, replicate, leb, eqb}
 use Rattle.checkword.specs.Bytes.{number, bytes_of}
