@@ -62,6 +62,19 @@ pub struct Written {
     pub length: u32,
 }
 
+// Why a call is refused. `as u32` gives the number that the caller is answered; 0 is no refusal.
+#[derive(Clone, Copy, Debug, PartialEq, Eq)]
+pub enum Refusal {
+    OutOfRange = 1,
+    NoRecord = 2,
+    WrongPhase = 3,
+    NoRoom = 4,
+    BadValue = 5,
+    BadTelegram = 6,
+    TimeBackwards = 7,
+    Ended = 8,
+}
+
 // The clauses of the check, in their order.
 #[derive(Clone, Copy)]
 pub enum Clause {
