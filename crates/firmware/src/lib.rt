@@ -1,4 +1,5 @@
 // The library for the card's firmware: plain numbers and byte runs. `firmware_c` exports what stands here to C.
+// An end comes as five numbers, one by one, and an answer goes out as a number, since C hands them over so.
 #![tactic(auto)]
 
 ghost use Rattle.std.specs.Prelude.{◌≡◌, ◌++◌};

@@ -1,5 +1,6 @@
-// The writers, the check, the net data and the check word for C, on plain numbers and byte runs. include/ujamniq.h declares them, for the people who call
-// them. Each is the function of `firmware` that has its name, and says what that says.
+// The writers, the check, the net data and the check word for C, on plain numbers and byte runs. include/ujamniq.h
+// declares them, for the people who call them. Each is the function of `firmware` that has its name, and says what that
+// says: a crate is a library or a static library, and Rattle code calls the library's.
 #![tactic(auto)]
 
 ghost use Rattle.std.specs.Prelude.{◌≡◌, ◌++◌};
