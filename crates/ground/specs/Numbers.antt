@@ -11,3 +11,8 @@ lowest_first (suc n) x = x % 256 ∷ lowest_first n (x / 256)
 abbrev pub number_at : ℕ → ℕ → List ℕ → ℕ
 number_at zero at t = 0
 number_at (suc n) at t = get_or t at 0 + 256 * number_at n (at + 1) t
+
+-- The n bytes from a place on. A byte past the end is 0.
+abbrev pub bytes_at : ℕ → ℕ → List ℕ → List ℕ
+bytes_at zero at t = []
+bytes_at (suc n) at t = get_or t at 0 ∷ bytes_at n (at + 1) t
