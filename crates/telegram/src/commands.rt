@@ -4,6 +4,8 @@ ghost use Rattle.telegram.specs.Commands.{is_data, kind_of, known};
 
 use crate::Kind;
 
+// The low six bits of each kind that has one command. They are constants and no method of Kind: Data has many
+// commands, and Unknown has none.
 pub const REQUEST: u32 = 0x00;
 
 pub const CONFIRM: u32 = 0x02;
@@ -21,13 +23,7 @@ pub const IDLE: u32 = 0x06;
 pub fn is_data(low: u32) -> bool
     ensures { result ≡ is_data low }
 {
-    if low == 0x09 {
-        return true;
-    }
-    if low < 0x20 {
-        return false;
-    }
-    low <= 0x3F
+    matches!(low, 0x09 | 0x20..=0x3F)
 }
 
 // What low six bits name.
@@ -35,28 +31,16 @@ pub fn is_data(low: u32) -> bool
 pub fn kind_of(low: u32) -> Kind
     ensures { result ≡ kind_of low }
 {
-    if low == REQUEST {
-        return Kind::Request;
+    match low {
+        REQUEST => Kind::Request,
+        CONFIRM => Kind::Confirm,
+        AUTHENTICATION => Kind::Authentication,
+        ACKNOWLEDGEMENT => Kind::Acknowledgement,
+        DISCONNECT => Kind::Disconnect,
+        IDLE => Kind::Idle,
+        _ if is_data(low) => Kind::Data,
+        _ => Kind::Unknown,
     }
-    if low == CONFIRM {
-        return Kind::Confirm;
-    }
-    if low == AUTHENTICATION {
-        return Kind::Authentication;
-    }
-    if low == ACKNOWLEDGEMENT {
-        return Kind::Acknowledgement;
-    }
-    if low == DISCONNECT {
-        return Kind::Disconnect;
-    }
-    if low == IDLE {
-        return Kind::Idle;
-    }
-    if is_data(low) {
-        return Kind::Data;
-    }
-    Kind::Unknown
 }
 
 // Whether a telegram can be of this kind.
@@ -64,13 +48,13 @@ pub fn is_known(kind: Kind) -> bool
     ensures { result ≡ known kind }
 {
     match kind {
-        Kind::Request => true,
-        Kind::Confirm => true,
-        Kind::Authentication => true,
-        Kind::Acknowledgement => true,
-        Kind::Disconnect => true,
-        Kind::Idle => true,
-        Kind::Data => true,
+        Kind::Request
+        | Kind::Confirm
+        | Kind::Authentication
+        | Kind::Acknowledgement
+        | Kind::Disconnect
+        | Kind::Idle
+        | Kind::Data => true,
         Kind::Unknown => false,
     }
 }

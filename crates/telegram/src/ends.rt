@@ -14,10 +14,7 @@ const HIGHEST_SAP: u32 = 62;
 pub(crate) fn is_level(level: u32) -> bool
     ensures { result ≡ is_level level }
 {
-    if level == 4 {
-        return true;
-    }
-    level == 2
+    matches!(level, 4 | 2)
 }
 
 // Whether addresses, SAPs and level are in range.
@@ -25,19 +22,11 @@ pub(crate) fn is_level(level: u32) -> bool
 pub fn in_range(end: End) -> bool
     ensures { result ≡ in_range end }
 {
-    if HIGHEST_ADDRESS < end.own {
-        return false;
-    }
-    if HIGHEST_ADDRESS < end.partner {
-        return false;
-    }
-    if HIGHEST_SAP < end.partner_sap {
-        return false;
-    }
-    if HIGHEST_SAP < end.local_sap {
-        return false;
-    }
-    is_level(end.level)
+    end.own <= HIGHEST_ADDRESS
+        && end.partner <= HIGHEST_ADDRESS
+        && end.partner_sap <= HIGHEST_SAP
+        && end.local_sap <= HIGHEST_SAP
+        && is_level(end.level)
 }
 
 // The eight implicit bytes, with the addresses and SAPs as the telegram travels.
@@ -52,15 +41,17 @@ fn implicit_bytes(
 ) -> [u8; 8]
     ensures { result ≡ implicit count receiver sender dsap ssap number }
 {
+    // The number's lowest byte is the telegram's first.
+    let [_, low, middle, high] = number.to_le_bytes();
     [
         (count % 256) as u8,
         (receiver % 256) as u8,
         (sender % 256) as u8,
         (dsap % 256) as u8,
         (ssap % 256) as u8,
-        (number / 256 % 256) as u8,
-        (number / 256 / 256 % 256) as u8,
-        (number / 256 / 256 / 256 % 256) as u8,
+        low,
+        middle,
+        high,
     ]
 }
 

@@ -6,7 +6,7 @@ ghost use Rattle.telegram.specs.Fields.{random_of, idle_time_of, version_x_of, v
 
 use crate::Kind;
 use crate::commands::kind_of;
-use ground::{byte, number_at1, number_at2, number_at4};
+use ground::{byte, bytes_at};
 
 // The command's low six bits.
 pub fn command_low(telegram: &[u8]) -> u32
@@ -26,43 +26,43 @@ pub fn kind_of_telegram(telegram: &[u8]) -> Kind
 pub fn random_number(telegram: &[u8]) -> u32
     ensures { result ≡ random_of telegram.now }
 {
-    number_at4(telegram, 2)
+    u32::from_le_bytes(bytes_at(telegram, 2))
 }
 
 pub fn idle_time(telegram: &[u8]) -> u32
     ensures { result ≡ idle_time_of telegram.now }
 {
-    number_at2(telegram, 6)
+    u16::from_le_bytes(bytes_at(telegram, 6)) as u32
 }
 
 pub fn version_x(telegram: &[u8]) -> u32
     ensures { result ≡ version_x_of telegram.now }
 {
-    number_at1(telegram, 8)
+    byte(telegram, 8) as u32
 }
 
 pub fn version_y(telegram: &[u8]) -> u32
     ensures { result ≡ version_y_of telegram.now }
 {
-    number_at1(telegram, 9)
+    byte(telegram, 9) as u32
 }
 
 // Of an authentication or its acknowledgement.
 pub fn authentication_number(telegram: &[u8]) -> u32
     ensures { result ≡ authentication_of telegram.now }
 {
-    number_at4(telegram, 2)
+    u32::from_le_bytes(bytes_at(telegram, 2))
 }
 
 // Of a disconnect.
 pub fn disconnect_type(telegram: &[u8]) -> u32
     ensures { result ≡ type_of telegram.now }
 {
-    number_at1(telegram, 2)
+    byte(telegram, 2) as u32
 }
 
 pub fn disconnect_reason(telegram: &[u8]) -> u32
     ensures { result ≡ reason_of telegram.now }
 {
-    number_at1(telegram, 3)
+    byte(telegram, 3) as u32
 }

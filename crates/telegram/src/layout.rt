@@ -13,46 +13,36 @@ pub(crate) fn header_length(kind: Kind) -> usize
     ensures { result ≡ header kind }
 {
     match kind {
-        Kind::Request => 12,
-        Kind::Confirm => 12,
-        Kind::Authentication => 6,
-        Kind::Acknowledgement => 6,
+        Kind::Request | Kind::Confirm => 12,
+        Kind::Authentication | Kind::Acknowledgement => 6,
         Kind::Disconnect => 4,
-        Kind::Idle => 2,
-        Kind::Data => 2,
-        Kind::Unknown => 2,
+        Kind::Idle | Kind::Data | Kind::Unknown => 2,
     }
 }
 
 // How many net bytes a telegram of this kind can carry.
+#[tactic(auto, using(crate::proofs::Widths::word_small))]
 pub fn most_net(kind: Kind, level: u32) -> usize
     ensures { result ≡ most kind level }
 {
     let word = word_length(level);
     match kind {
-        Kind::Request => LONGEST - 12 - word,
-        Kind::Confirm => LONGEST - 12 - word,
-        Kind::Authentication => 0,
-        Kind::Acknowledgement => 0,
+        Kind::Request | Kind::Confirm => LONGEST - 12 - word,
         Kind::Disconnect => 40,
-        Kind::Idle => 0,
         Kind::Data => LONGEST - 2 - word,
-        Kind::Unknown => 0,
+        Kind::Authentication | Kind::Acknowledgement | Kind::Idle | Kind::Unknown => 0,
     }
 }
 
 // Whether this length suits the kind and level.
-#[tactic(auto, using(ground::specs::Choice::tests))]
+#[tactic(auto, using(ground::specs::Choice::tests, crate::proofs::Widths::word_small, crate::proofs::Cases::header_small, crate::proofs::Cases::most_small))]
 pub fn length_suits(kind: Kind, level: u32, length: usize) -> bool
     ensures { result ≡ suits kind level length }
 {
     let word = word_length(level);
     let header = header_length(kind);
     let most = most_net(kind, level);
-    if length < header + word {
-        return false;
-    }
-    length <= header + most + word
+    header + word <= length && length <= header + most + word
 }
 
 // Whether the bus can carry a telegram of this length for us.
@@ -60,8 +50,5 @@ pub fn length_suits(kind: Kind, level: u32, length: usize) -> bool
 pub fn on_bus(length: usize) -> bool
     ensures { result ≡ on_bus length }
 {
-    if length < 6 {
-        return false;
-    }
-    length <= LONGEST
+    (6..=LONGEST).contains(&length)
 }

@@ -7,10 +7,7 @@ ghost use Rattle.telegram.specs.Values.{good_idle, good_type, listed_reason, goo
 pub fn good_idle(time: u32) -> bool
     ensures { result ≡ good_idle time }
 {
-    if 65500 < time {
-        return false;
-    }
-    time % 100 == 0
+    time <= 65500 && time % 100 == 0
 }
 
 // Whether a disconnect's type is 0, final, or 1, not final.
@@ -26,13 +23,7 @@ pub fn good_type(kind: u32) -> bool
 pub fn listed_reason(reason: u32) -> bool
     ensures { result ≡ listed_reason reason }
 {
-    if reason <= 0x07 {
-        return true;
-    }
-    if reason < 0x1F {
-        return false;
-    }
-    reason <= 0x40
+    matches!(reason, 0x00..=0x07 | 0x1F..=0x40)
 }
 
 // Whether a dual bus byte is one that has a meaning.
