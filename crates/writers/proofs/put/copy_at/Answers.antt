@@ -1,10 +1,10 @@
--- What is copied, and the part before it and the part behind it as they were (`over_is`).
-use Rattle.std.proofs.Common.{arith, refl, ◌∙◌, length, take_all}
-use Rattle.std.proofs.lemmas.Slice.{put_mid-paste}
-use Rattle.telegram.proofs.Over.{over_is}
+-- A turn lays one more byte over the buffer (`over_next`).
+use Rattle.std.proofs.Common.{sym, arith}
+use Rattle.telegram.proofs.Over.{over_none, over_next}
 use Rattle.writers.proofs.put.copy_at.Goals as goal
 
-pub returns : goal.returns
-returns c =
-    put_mid-paste _ _ _ _ _ (length c.args.src.now) c.copy_from_slice.ensures.after (omega arith) refl
-    ∙ rw (over_is c.args.out.now c.args.src.now c.args.at c.requires, take_all (length c.args.src.now) c.args.src.now (omega arith)) refl
+pub loop-i-init : goal.loop-i-init
+loop-i-init c = (omega arith, sym (over_none _ _))
+
+pub loop-i-preserved : goal.loop-i-preserved
+loop-i-preserved c = (omega arith, rw c.loop-i.invariant.1 (over_next _ _ _ _ c.loop-i-test.true))
