@@ -8,7 +8,7 @@ ghost use Rattle.telegram.specs.Check.{same_level, number_used, word_agrees, cla
 use crate::numbers::number_of;
 use ground::{byte, number_at1, number_at2, number_at4};
 use telegram::{
-    Check, Clause, End, Kind, Level, good_dual_bus, good_idle, good_type, in_range, is_known,
+    Check, Clause, End, Kind, good_dual_bus, good_idle, good_type, in_range, is_known,
     kind_of, length_suits, level_of, on_bus, receiving_bytes, word_length, word_of,
 };
 
@@ -16,10 +16,7 @@ use telegram::{
 fn of_level(command: u8, level: u32) -> bool
     ensures { result ≡ same_level (level_of command) level }
 {
-    let Level::Sl(given) = level_of(command) else {
-        return false;
-    };
-    given == level
+    level_of(command) == Some(level)
 }
 
 // The number that a telegram is checked with: its own random number for request and confirm, else the expected one.

@@ -12,6 +12,7 @@ use lib.ListN.{length, take, drop, get_or, length-take, length-drop, take-append
 use lib.Seq.{drop-cons, drop-drop, take-add}
 use lib.Dec.{leb, eqb, lit<}
 use borrow.Author.Tests.{leb-true, le-leb, eqb-true, eq-eqb, ne_eqb}
+use Rattle.std.specs.Prelude.{Some, None}
 use Rattle.checkword.specs.Bytes.{Bytes, bytes_of}
 use Rattle.checkword.proofs.Bytes.{bytes_take, bytes_drop, bytes_of_number}
 use Rattle.ground.specs.Choice.{pick}
@@ -24,7 +25,6 @@ use Rattle.telegram.specs.Values.{good_idle, good_type, good_dual_bus, good_fiel
 use Rattle.telegram.specs.Telegrams.{check_word, body, sealed, telegram}
 use Rattle.telegram.specs.Check.{command_of, same_level, number_used, used_for, covered, word_agrees, check_of}
 use Rattle.telegram.specs.declared.End.{End}
-use Rattle.telegram.specs.declared.Level.TheVariants.{Sl, Unassigned}
 use Rattle.telegram.specs.declared.Kind.{Kind}
 use Rattle.telegram.specs.declared.Kind.TheVariants.{Request, Confirm, Authentication, Acknowledgement, Disconnect, Idle, Data, Unknown}
 use Rattle.telegram.specs.declared.Check.TheVariants.{Passes}
@@ -72,7 +72,7 @@ field_lt (suc w) at t h =
 
 -- its top two bits are the level's
 of_level : (x y z : Bool) (b l : ℕ) → eqb (b / 64) 2 ≡ x → eqb (b / 64) 0 ≡ y → eqb (b / 64) 3 ≡ z → is_level l ≡ true
-    → same_level (pick x (Sl 4) (pick y (Sl 2) (pick z (Sl 0) Unassigned))) l ≡ true → b ≡ top_bits l * 64 + b % 64
+    → same_level (pick x (Some 4) (pick y (Some 2) (pick z (Some 0) None))) l ≡ true → b ≡ top_bits l * 64 + b % 64
 unfolding top_bits pick
 of_level true y z b l p q r there same =
     let top : top_bits l ≡ 2 = rw (← eqb-true 4 l same) refl in

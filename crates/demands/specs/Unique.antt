@@ -3,7 +3,7 @@
 -- result and, of what was lent with `&mut`, any value left: x for `x.now` and `x.old`, x' for `x.new`. No public function has a `requires`, so the fields
 -- speak of all values of the arguments. proofs/Unique.antt proves `Uniqueness` under the same name in snake case. The gate compares each field with its source.
 -- Assumes nothing.
-use Rattle.std.specs.Prelude.{◌≡◌, Bool, List, ◌++◌, ℕ, get_or}
+use Rattle.std.specs.Prelude.{◌≡◌, Bool, List, ◌++◌, ℕ, Option, get_or}
 use Rattle.std.specs.Int.Bits.{bit_xor}
 use Rattle.ground.specs.Numbers.{number_at}
 use Rattle.digits.specs.Digits.{picked}
@@ -22,7 +22,6 @@ use Rattle.telegram.specs.Check.{command_of, check_of, answer_number}
 use Rattle.telegram.specs.NetData.{net_part, net_data}
 use Rattle.telegram.specs.Fields.{random_of, idle_time_of, version_x_of, version_y_of, authentication_of, type_of, reason_of, low_of}
 use Rattle.telegram.specs.declared.End.{End}
-use Rattle.telegram.specs.declared.Level.{Level}
 use Rattle.telegram.specs.declared.Kind.{Kind}
 use Rattle.telegram.specs.declared.Written.{Written}
 use Rattle.telegram.specs.declared.Check.{Check}
@@ -109,7 +108,7 @@ pub record Telegram : Type 0 where
   pub sending_bytes : (end : End) (number count : ℕ) → Unique (λ (r : List ℕ). r ≡ sending end number count)
   pub receiving_bytes : (end : End) (number count : ℕ) → Unique (λ (r : List ℕ). r ≡ receiving end number count)
   -- src/levels.rt: the level that a command gives, and what differs by level
-  pub level_of : (command : ℕ) → Unique (λ (l : Level). l ≡ level_of command)
+  pub level_of : (command : ℕ) → Unique (λ (l : Option ℕ). l ≡ level_of command)
   pub top_bits : (level : ℕ) → Unique (λ (b : ℕ). b ≡ top_bits level)
   pub word_length : (level : ℕ) → Unique (λ (n : ℕ). n ≡ word_length level)
   pub added_number : (level : ℕ) → Unique (λ (n : ℕ). n ≡ added level)

@@ -1,7 +1,7 @@
 -- The scope, "Worked numbers": the lines marked P as one list with one statement. Each line says what the paper prints of the definition that the contracts
 -- use, with the paper's words above it. proofs/Worked.antt proves the statement under the same name in snake case.
 -- Assumes nothing.
-use Rattle.std.specs.Prelude.{◌≡◌, true, false, List, [], ◌∷◌, ℕ, ◌≤◌, ◌<◌, length, drop, get_or}
+use Rattle.std.specs.Prelude.{◌≡◌, true, false, List, [], ◌∷◌, ℕ, ◌≤◌, ◌<◌, length, drop, get_or, Some, None}
 use Rattle.checkword.specs.Bytes.{Bytes}
 use Rattle.telegram.specs.Levels.{level_of}
 use Rattle.telegram.specs.Commands.{kind_of_command}
@@ -13,7 +13,6 @@ use Rattle.telegram.specs.Writers.{answer_of, writes_request, writes_confirm, wr
 use Rattle.telegram.specs.Writers.Outcome.{wrote}
 use Rattle.telegram.specs.Check.{command_of, same_level, check_of}
 use Rattle.telegram.specs.declared.End.{End}
-use Rattle.telegram.specs.declared.Level.TheVariants.{Sl, Unassigned}
 use Rattle.telegram.specs.declared.Kind.TheVariants.{Request, Data, Unknown}
 use Rattle.telegram.specs.declared.Clause.{Clause}
 use Rattle.telegram.specs.declared.Clause.TheVariants as clause
@@ -86,10 +85,10 @@ lines =
     ∷ Byte1 0x01234568 0x68
     ∷ ImplicitBytes 0x01234568 (0x45 ∷ 0x23 ∷ 0x01 ∷ [])
     -- "levels: 80h 4, 3Fh 2, E0h 0, 40h none."
-    ∷ (level_of 0x80 ≡ Sl 4)
-    ∷ (level_of 0x3F ≡ Sl 2)
-    ∷ (level_of 0xE0 ≡ Sl 0)
-    ∷ (level_of 0x40 ≡ Unassigned)
+    ∷ (level_of 0x80 ≡ Some 4)
+    ∷ (level_of 0x3F ≡ Some 2)
+    ∷ (level_of 0xE0 ≡ Some 0)
+    ∷ (level_of 0x40 ≡ None)
     -- "data: BFh yes,
     ∷ (kind_of_command 0xBF ≡ Data)
     ∷ (same_level (level_of 0xBF) 4 ≡ true)

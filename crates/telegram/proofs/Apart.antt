@@ -9,6 +9,7 @@ use native.Mathlib.Omega.{arith}
 use lib.ListN.{length, take, drop, get_or, length-append, get_or-eq_default}
 use lib.Dec.{eqb}
 use borrow.Author.Tests.{leb-true, eqb-true, eqb-false}
+use Rattle.std.specs.Prelude.{Option, Some, None}
 use Rattle.checkword.specs.Bytes.{Bytes, number, Within}
 use Rattle.checkword.specs.Word.{word}
 use Rattle.checkword.proofs.Bytes.{bytes_append, bytes_take}
@@ -24,8 +25,6 @@ use Rattle.telegram.specs.Telegrams.{check_word}
 use Rattle.telegram.specs.Check.{command_of, same_level, number_used, used_for, covered, word_agrees, clauses, first_failing, check_of}
 use Rattle.telegram.specs.Facts.{OtherPartner, ApartAt4, ApartAt2, ConnectApart, OneNumber, LevelApart}
 use Rattle.telegram.specs.declared.End.{End}
-use Rattle.telegram.specs.declared.Level.{Level}
-use Rattle.telegram.specs.declared.Level.TheVariants.{Sl, Unassigned}
 use Rattle.telegram.specs.declared.Kind.{Kind}
 use Rattle.telegram.specs.declared.Kind.TheVariants.{Request, Confirm, Authentication, Acknowledgement, Disconnect, Idle, Data, Unknown}
 use Rattle.telegram.specs.declared.Clause.{Clause}
@@ -87,9 +86,9 @@ passed e m t p =
     }
 
 -- One command says one level.
-one_level : (x : Level) (l m : ℕ) → same_level x l ≡ true → same_level x m ≡ true → l ≡ m
-one_level (Sl k) l m p q = sym (eqb-true k l p) ∙ eqb-true k m q
-one_level Unassigned l m p q = let z : ◌≡◌ {A = ℕ} 0 1 = cc in absurd (omega arith)
+one_level : (x : Option ℕ) (l m : ℕ) → same_level x l ≡ true → same_level x m ≡ true → l ≡ m
+one_level (Some k) l m p q = sym (eqb-true k l p) ∙ eqb-true k m q
+one_level None l m p q = let z : ◌≡◌ {A = ℕ} 0 1 = cc in absurd (omega arith)
 
 pub level_apart : LevelApart
 level_apart e f m n t p q =

@@ -1,24 +1,14 @@
 -- What a definition by cases says once the case is known: so that every arm of a `match` is proved by one line.
 -- Assumes nothing.
 use mathlib.Core.Path.{◌≡◌}
-use mathlib.Core.Bool.{Bool}
-use mathlib.Core.List.{List}
 use Prim.Native.Nat.{ℕ, ◌+◌, ◌≤◌}
 use native.Mathlib.Omega.{arith}
 use lib.Dec.{lit≤}
 use Rattle.telegram.specs.Levels.{word_length}
-use Rattle.telegram.specs.Layout.{header, most, values}
-use Rattle.telegram.specs.Values.{good_fields}
-use Rattle.telegram.specs.Check.{same_level, number_used}
-use Rattle.telegram.specs.NetData.{part_of}
-use Rattle.telegram.specs.declared.Level.{Level}
-use Rattle.telegram.specs.declared.Part.{Part}
+use Rattle.telegram.specs.Layout.{header, most}
 use Rattle.telegram.specs.declared.Kind.{Kind}
 use Rattle.telegram.specs.declared.Kind.TheVariants.{Request, Confirm, Authentication, Acknowledgement, Disconnect, Idle, Data, Unknown}
 use Rattle.telegram.proofs.Widths.{word_small}
-
-pub header_is : (k h : Kind) (n : ℕ) → k ≡ h → n ≡ header h → n ≡ header k
-header_is k h n e p = rw e p
 
 pub most_is : (k h : Kind) (l n : ℕ) → k ≡ h → n ≡ most h l → n ≡ most k l
 most_is k h l n e p = rw e p
@@ -52,16 +42,3 @@ most_small Disconnect l = omega (arith, word_small l)
 most_small Idle l = omega (arith, word_small l)
 most_small Data l = omega (arith, word_small l)
 most_small Unknown l = omega (arith, word_small l)
-
-pub used_is : (k h : Kind) (expected n : ℕ) (t : List ℕ) → k ≡ h → n ≡ number_used h expected (values h t) → n ≡ number_used k expected (values k t)
-used_is k h expected n t e p = rw e p
-
-pub fields_is : (k h : Kind) (b : Bool) (t : List ℕ) → k ≡ h → b ≡ good_fields h (values h t) → b ≡ good_fields k (values k t)
-fields_is k h b t e p = rw e p
-
--- by what a call gave, g, which is known to be the case h
-pub same_level_is : (f g h : Level) (l : ℕ) (b : Bool) → f ≡ g → f ≡ h → b ≡ same_level h l → b ≡ same_level g l
-same_level_is f g h l b p q r = rw (← p, q) r
-
-pub part_is : (f g h : Level) (k : Kind) (n : ℕ) (x : Part) → f ≡ g → f ≡ h → x ≡ part_of h k n → x ≡ part_of g k n
-part_is f g h k n x p q r = rw (← p, q) r

@@ -6,6 +6,7 @@ use mathlib.Core.List.{List, [], ◌∷◌}
 use Prim.Native.Nat.{ℕ, ◌+◌, ◌-◌, ◌≤◌}
 use native.Mathlib.Omega.{arith}
 use lib.ListN.{length, take, drop}
+use Rattle.std.specs.Prelude.{Option, Some, None}
 use Rattle.ground.specs.Choice.{pick, all}
 use Rattle.telegram.specs.Levels.{level_of, word_length}
 use Rattle.telegram.specs.Commands.{kind_of_command, known}
@@ -14,8 +15,6 @@ use Rattle.telegram.specs.Ends.{is_level}
 use Rattle.telegram.specs.Check.{command_of}
 use Rattle.telegram.specs.NetData.{nowhere, part_of, net_part, net_data}
 use Rattle.telegram.specs.declared.Kind.{Kind}
-use Rattle.telegram.specs.declared.Level.{Level}
-use Rattle.telegram.specs.declared.Level.TheVariants.{Sl, Unassigned}
 use Rattle.telegram.specs.declared.Part.{Part}
 use Rattle.telegram.proofs.Refusals.{telegram_room}
 
@@ -28,10 +27,10 @@ unfolding Inside pick
 picked k l n true h = omega (arith, h refl)
 picked k l n false h = omega arith
 
-inside : (lv : Level) (k : Kind) (n : ℕ) → Inside (part_of lv k n) n
+inside : (lv : Option ℕ) (k : Kind) (n : ℕ) → Inside (part_of lv k n) n
 unfolding Inside
-inside (Sl l) k n = picked k l n (all (is_level l ∷ known k ∷ suits k l n ∷ [])) (λ e. (telegram_room k l n e).0)
-inside Unassigned k n = omega arith
+inside (Some l) k n = picked k l n (all (is_level l ∷ known k ∷ suits k l n ∷ [])) (λ e. (telegram_room k l n e).0)
+inside None k n = omega arith
 
 pub part_inside : (t : List ℕ) → (net_part t).start + (net_part t).count ≤ length t
 unfolding net_part Inside

@@ -12,6 +12,7 @@ use lib.Pow.{pow_pos}
 use lib.ListN.{length, take, drop, get_or}
 use lib.Seq.{take_at, drop_at}
 use lib.Dec.{leb, eqb, lit<}
+use Rattle.std.specs.Prelude.{Option, Some}
 use borrow.Author.Tests.{leb-true, le-leb, eqb-true, eq-eqb}
 use Rattle.checkword.specs.Bytes.{Bytes, number, bytes_of}
 use Rattle.checkword.proofs.Bytes.{bytes_append, number_bytes_of}
@@ -29,8 +30,6 @@ use Rattle.telegram.specs.Check.{command_of, same_level, number_used, used_for, 
 use Rattle.telegram.specs.NetData.{part_of, net_part, net_data}
 use Rattle.telegram.specs.Facts.{Taken, RequestTaken, ConfirmTaken, AuthenticationTaken, AcknowledgementTaken, DisconnectTaken, IdleTaken, DataTaken}
 use Rattle.telegram.specs.declared.End.{End}
-use Rattle.telegram.specs.declared.Level.{Level}
-use Rattle.telegram.specs.declared.Level.TheVariants.{Sl}
 use Rattle.telegram.specs.declared.Kind.{Kind}
 use Rattle.telegram.specs.declared.Kind.TheVariants.{Request, Confirm, Authentication, Acknowledgement, Disconnect, Idle, Data}
 use Rattle.telegram.specs.declared.Part.{Part}
@@ -64,7 +63,7 @@ unfolding in_range
 mirrored_in_range e h = swapped (leb e.own 126) (leb e.partner 126) (leb e.partner_sap 62) (leb e.local_sap 62) (is_level e.level) h
 
 -- a command says the level and the kind that it was made from
-level_back : (l low : ℕ) → is_level l ≡ true → low < 64 → level_of (top_bits l * 64 + low) ≡ Sl l
+level_back : (l low : ℕ) → is_level l ≡ true → low < 64 → level_of (top_bits l * 64 + low) ≡ Some l
 unfolding level_of top_bits pick
 level_back l low h small = split (either_true (eqb l 4) (eqb l 2) h)
   where
@@ -74,7 +73,7 @@ level_back l low h small = split (either_true (eqb l 4) (eqb l 2) h)
     two : (0 * 64 + low) / 64 ≡ 0
     two = omega arith
 
-    split : (eqb l 4 ≡ true) ⊎ (eqb l 2 ≡ true) → level_of (top_bits l * 64 + low) ≡ Sl l
+    split : (eqb l 4 ≡ true) ⊎ (eqb l 2 ≡ true) → level_of (top_bits l * 64 + low) ≡ Some l
     split (inl p) = rw (eqb-true l 4 p, four)
     split (inr p) = rw (eqb-true l 2 p, two)
 
@@ -169,11 +168,11 @@ module _ (e : End) (n low : ℕ) (vs net : List ℕ) where
         both_are (leb 6 (length t)) (leb (length t) 244) (le-leb 6 (length t) (omega (arith, size, header_some (kind_of low), word_some e.level)))
         (le-leb (length t) 244 (omega (arith, size, most_small (kind_of low) e.level)))
 
-    level_told : level_of (command_of t) ≡ Sl e.level
+    level_told : level_of (command_of t) ≡ Some e.level
     level_told = ap level_of command ∙ level_back e.level low (level_there e ranged) small
 
     level_clause : same_level (level_of (command_of t)) e.level ≡ true
-    level_clause = ap {B = Bool} (λ (x : Level). same_level x e.level) level_told ∙ eq-eqb e.level e.level refl
+    level_clause = ap {B = Bool} (λ (x : Option ℕ). same_level x e.level) level_told ∙ eq-eqb e.level e.level refl
 
     suits_telegram : suits (kind_of low) e.level (length t) ≡ true
     suits_telegram =
@@ -184,7 +183,7 @@ module _ (e : End) (n low : ℕ) (vs net : List ℕ) where
     net_part_holds : net_part t ≡ record { start = header (kind_of low); count = length net }
     unfolding net_part
     net_part_holds =
-        ap₂ {C = Part} (λ (x : Level) (y : Kind). part_of x y (length t)) level_told kind_back
+        ap₂ {C = Part} (λ (x : Option ℕ) (y : Kind). part_of x y (length t)) level_told kind_back
         ∙ step (all (is_level e.level ∷ known (kind_of low) ∷ suits (kind_of low) e.level (length t) ∷ [])) _ _ _
         (both_are (is_level e.level) (pick (known (kind_of low)) (suits (kind_of low) e.level (length t)) false) (level_there e ranged)
         (both_are (known (kind_of low)) (suits (kind_of low) e.level (length t)) there suits_telegram))

@@ -1,6 +1,6 @@
 -- The check of a received telegram: the clauses of the scope in their order, and the first of them that fails.
 -- Assumes nothing.
-use Rattle.std.specs.Prelude.{Bool, false, List, [], ◌∷◌, ℕ, ◌-◌, ◌%◌, length, take, drop, get_or, eqb}
+use Rattle.std.specs.Prelude.{Bool, false, List, [], ◌∷◌, ℕ, ◌-◌, ◌%◌, length, take, drop, get_or, eqb, Option, Some, None}
 use Rattle.checkword.specs.Bytes.{number}
 use Rattle.ground.specs.Choice.{pick}
 use Rattle.telegram.specs.Levels.{level_of, word_length}
@@ -10,8 +10,6 @@ use Rattle.telegram.specs.Ends.{in_range, receiving}
 use Rattle.telegram.specs.Values.{good_fields}
 use Rattle.telegram.specs.Telegrams.{check_word}
 use Rattle.telegram.specs.declared.End.{End}
-use Rattle.telegram.specs.declared.Level.{Level}
-use Rattle.telegram.specs.declared.Level.TheVariants.{Sl, Unassigned}
 use Rattle.telegram.specs.declared.Kind.{Kind}
 use Rattle.telegram.specs.declared.Kind.TheVariants.{Request, Confirm, Authentication, Acknowledgement, Disconnect, Idle, Data, Unknown}
 use Rattle.telegram.specs.declared.Clause.{Clause}
@@ -24,9 +22,9 @@ abbrev pub command_of : List ℕ → ℕ
 command_of t = get_or t 1 0
 
 -- A level that is the end's.
-abbrev pub same_level : Level → ℕ → Bool
-same_level (Sl m) l = eqb m l
-same_level Unassigned l = false
+abbrev pub same_level : Option ℕ → ℕ → Bool
+same_level (Some m) l = eqb m l
+same_level None l = false
 
 -- The number used: the expected one, or the telegram's own random number for connect request and confirm (5.2.1.3, bytes 3..6). vs are the values of the
 -- fixed fields.

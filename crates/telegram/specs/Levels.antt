@@ -1,10 +1,8 @@
 -- Everything that differs by level, each as one definition over the level; and the level that a command says.
 -- Assumes nothing.
-use Rattle.std.specs.Prelude.{ℕ, ◌/◌, eqb}
+use Rattle.std.specs.Prelude.{ℕ, ◌/◌, eqb, Option, Some, None}
 use Rattle.checkword.specs.Generators.{generator48, generator32}
 use Rattle.ground.specs.Choice.{pick}
-use Rattle.telegram.specs.declared.Level.{Level}
-use Rattle.telegram.specs.declared.Level.TheVariants.{Sl, Unassigned}
 
 -- What is `four` at level 4 and `two` at level 2.
 abbrev pub by_level : {A : Type 0} → A → A → ℕ → A
@@ -30,6 +28,6 @@ unfoldable pub added : ℕ → ℕ
 added = by_level 1 2
 
 -- The level that a command's top two bits give (5.1.1.5): 10 is SL 4, 00 is SL 2, 11 is SL 0, 01 is none.
-unfoldable pub level_of : ℕ → Level
+unfoldable pub level_of : ℕ → Option ℕ
 level_of command =
-    pick (eqb (command / 64) 2) (Sl 4) (pick (eqb (command / 64) 0) (Sl 2) (pick (eqb (command / 64) 3) (Sl 0) Unassigned))
+    pick (eqb (command / 64) 2) (Some 4) (pick (eqb (command / 64) 0) (Some 2) (pick (eqb (command / 64) 3) (Some 0) None))

@@ -3,24 +3,17 @@ ghost use Rattle.std.specs.Prelude.{◌≡◌};
 ghost use Rattle.telegram.specs.Levels.{level_of, top_bits, word_length, added};
 ghost use Rattle.telegram.specs.Telegrams.{check_word};
 
-use crate::Level;
-
-// The level that a command's top two bits give.
+// The level that a command's top two bits give: 4, 2 or 0, or none. A number, since `End::level` is one that a caller may set to any.
 #[tactic(auto, using(ground::specs::Choice::tests), unfolding(crate::specs::Levels::level_of))]
-pub fn level_of(command: u8) -> Level
+pub fn level_of(command: u8) -> Option<u32>
     ensures { result ≡ level_of command }
 {
-    let top = command / 64;
-    if top == 2 {
-        return Level::Sl(4);
+    match command / 64 {
+        2 => Some(4),
+        0 => Some(2),
+        3 => Some(0),
+        _ => None,
     }
-    if top == 0 {
-        return Level::Sl(2);
-    }
-    if top == 3 {
-        return Level::Sl(0);
-    }
-    Level::Unassigned
 }
 
 // The top two bits of the level's commands.

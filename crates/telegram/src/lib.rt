@@ -34,13 +34,6 @@ pub struct End {
     pub level: u32,
 }
 
-// The level that a command's top two bits give: 4, 2 or 0, or none.
-#[derive(Clone, Copy)]
-pub enum Level {
-    Sl(u32),
-    Unassigned,
-}
-
 // What a command's low six bits name.
 #[derive(Clone, Copy)]
 pub enum Kind {

@@ -1,5 +1,5 @@
 // Where the net data of a telegram lie, and the net data as that part of it.
-ghost use Rattle.std.specs.Prelude.{◌≡◌, [], ◌∷◌};
+ghost use Rattle.std.specs.Prelude.{◌≡◌, [], ◌∷◌, Some};
 ghost use Rattle.ground.specs.Choice.{all};
 ghost use Rattle.telegram.specs.Commands.{known};
 ghost use Rattle.telegram.specs.Layout.{suits};
@@ -10,7 +10,7 @@ use crate::commands::{is_known, kind_of};
 use crate::ends::is_level;
 use crate::layout::{header_length, length_suits};
 use crate::levels::{level_of, word_length};
-use crate::{Kind, Level, Part};
+use crate::{Kind, Part};
 use ground::byte;
 
 // Whether a level, kind and length are a telegram's.
@@ -18,19 +18,13 @@ use ground::byte;
 fn is_telegram(level: u32, kind: Kind, length: usize) -> bool
     ensures { result ≡ all (is_level level ∷ known kind ∷ suits kind level length ∷ []) }
 {
-    if !is_level(level) {
-        return false;
-    }
-    if !is_known(kind) {
-        return false;
-    }
-    length_suits(kind, level, length)
+    is_level(level) && is_known(kind) && length_suits(kind, level, length)
 }
 
 // After the header and before the check word.
 #[tactic(auto, using(ground::specs::Choice::tests))]
 fn part_of(level: u32, kind: Kind, length: usize) -> Part
-    ensures { result ≡ part_of (Level.Sl level) kind length }
+    ensures { result ≡ part_of (Some level) kind length }
 {
     if !is_telegram(level, kind, length) {
         return Part { start: 0, count: 0 };
@@ -49,7 +43,7 @@ pub fn net_part(telegram: &[u8]) -> Part
 {
     let command = byte(telegram, 1);
     let kind = kind_of((command % 64) as u32);
-    let Level::Sl(level) = level_of(command) else {
+    let Some(level) = level_of(command) else {
         return Part { start: 0, count: 0 };
     };
     part_of(level, kind, telegram.len())
