@@ -8,8 +8,8 @@ ghost use Rattle.telegram.specs.Check.{same_level, number_used, word_agrees, cla
 use crate::numbers::number_of;
 use ground::{byte, number_at1, number_at2, number_at4};
 use telegram::{
-    Check, Clause, End, Kind, good_dual_bus, good_idle, good_type, in_range, is_known,
-    kind_of, length_suits, level_of, on_bus, receiving_bytes, word_length, word_of,
+    Check, Clause, End, Kind, good_dual_bus, good_idle, good_type, in_range, is_known, kind_of,
+    length_suits, level_of, on_bus, receiving_bytes, word_length, word_of,
 };
 
 // Whether a command is of the level.
@@ -24,41 +24,29 @@ fn number_used(kind: Kind, expected: u32, t: &[u8]) -> u32
     ensures { result ≡ number_used kind expected (values kind t.now) }
 {
     match kind {
-        Kind::Request => number_at4(t, 2),
-        Kind::Confirm => number_at4(t, 2),
-        Kind::Authentication => expected,
-        Kind::Acknowledgement => expected,
-        Kind::Disconnect => expected,
-        Kind::Idle => expected,
-        Kind::Data => expected,
-        Kind::Unknown => expected,
+        Kind::Request | Kind::Confirm => number_at4(t, 2),
+        Kind::Authentication
+        | Kind::Acknowledgement
+        | Kind::Disconnect
+        | Kind::Idle
+        | Kind::Data
+        | Kind::Unknown => expected,
     }
-}
-
-// Whether the fixed fields of a request or confirm are in range.
-#[tactic(auto, using(ground::specs::Choice::tests))]
-fn connect_in_range(t: &[u8]) -> bool
-    ensures { result ≡ good_fields Kind.Request (values Kind.Request t.now) }
-{
-    if !good_idle(number_at2(t, 6)) {
-        return false;
-    }
-    good_dual_bus(number_at1(t, 11))
 }
 
 // Whether the fixed fields are in range.
+#[tactic(auto, using(ground::specs::Choice::tests))]
 fn fields_in_range(kind: Kind, t: &[u8]) -> bool
     ensures { result ≡ good_fields kind (values kind t.now) }
 {
     match kind {
-        Kind::Request => connect_in_range(t),
-        Kind::Confirm => connect_in_range(t),
-        Kind::Authentication => true,
-        Kind::Acknowledgement => true,
+        Kind::Request | Kind::Confirm => {
+            good_idle(number_at2(t, 6)) && good_dual_bus(number_at1(t, 11))
+        }
         Kind::Disconnect => good_type(number_at1(t, 2)),
-        Kind::Idle => true,
-        Kind::Data => true,
-        Kind::Unknown => true,
+        Kind::Authentication | Kind::Acknowledgement | Kind::Idle | Kind::Data | Kind::Unknown => {
+            true
+        }
     }
 }
 

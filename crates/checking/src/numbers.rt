@@ -1,5 +1,5 @@
 // The number that a check word's bytes write.
-ghost use Rattle.std.specs.Prelude.{◌≡◌, ◌≤◌, ◌<◌, ◌*◌, length};
+ghost use Rattle.std.specs.Prelude.{◌≡◌, ◌≤◌, length};
 ghost use Rattle.checkword.specs.Bytes.{number};
 
 // The number of a run of up to six bytes, highest first.
@@ -8,11 +8,8 @@ pub(crate) fn number_of(bytes: &[u8]) -> u64
     ensures { result ≡ number bytes.now }
 {
     let mut x: u64 = 0;
-    let mut i = 0;
-    while i < bytes.len() {
-        let next = bytes[i] as u64;
-        x = x * 256 + next;
-        i += 1;
+    for &next in bytes {
+        x = x * 256 + next as u64;
     }
     x
 }

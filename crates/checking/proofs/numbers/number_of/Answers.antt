@@ -15,12 +15,12 @@ so_far bs i x e few h small =
     rw e (lt_of_lt_of_le (number_lt (take i bs) (bytes_take i bs bytes)) (pow_mono {j = 40} (omega arith)))
 
 pub overflow_mul-x : goal.overflow_mul-x
-overflow_mul-x c = let known = so_far _ _ _ c.loop-i.invariant.1 c.requires c.loop-i-test.true c.type_inv.bytes in omega arith
+overflow_mul-x c = let known = so_far _ _ _ c.loop-next.invariant c.requires (omega arith) c.type_inv.bytes in omega arith
 
 pub overflow_add-x : goal.overflow_add-x
 overflow_add-x c =
-    let known = so_far _ _ _ c.loop-i.invariant.1 c.requires c.loop-i-test.true c.type_inv.bytes in
-    omega (arith, c.type_inv.bytes c.loop-i.i)
+    let known = so_far _ _ _ c.loop-next.invariant c.requires (omega arith) c.type_inv.bytes in
+    omega (arith, c.type_inv.bytes c.loop-next.next-index)
 
-pub loop-i-preserved : goal.loop-i-preserved
-loop-i-preserved c = (omega arith, number_next c.args.bytes.now c.loop-i.i c.loop-i.x c.loop-i-test.true c.loop-i.invariant.1)
+pub loop-next-preserved : goal.loop-next-preserved
+loop-next-preserved c = number_next c.args.bytes.now c.loop-next.next-index c.loop-next.x (omega arith) c.loop-next.invariant
