@@ -12,7 +12,7 @@ use borrow.Author.Tests.{leb-true, eqb-true, ne_eqb}
 use Rattle.ground.specs.Choice.{pick, all}
 use Rattle.telegram.specs.Levels.{word_length}
 use Rattle.telegram.specs.Commands.{is_data, kind_of, known}
-use Rattle.telegram.specs.Layout.{longest, header, most, on_bus, suits, field_bytes}
+use Rattle.telegram.specs.Layout.{longest, header, most, suits, field_bytes}
 use Rattle.telegram.specs.Ends.{is_level, in_range}
 use Rattle.telegram.specs.Values.{good_idle, good_type, listed_reason}
 use Rattle.telegram.specs.Telegrams.{body, sealed}
@@ -127,11 +127,6 @@ data_kind low e =
     rw (ne_eqb low 0 (λ p. omega arith), ne_eqb low 2 (λ p. omega arith), ne_eqb low 3 (λ p. omega arith), ne_eqb low 4 (λ p. omega arith), ne_eqb low 5 (λ p. omega arith), ne_eqb low 6 (λ p. omega arith), e)
 
 -- the lengths that the tests tell
-pub on_bus_room : (n : ℕ) → on_bus n ≡ true → (6 ≤ n) × (n ≤ 244)
-on_bus_room n e =
-    let b = both_true (leb 6 n) (leb n 244) e in
-    (leb-true 6 n b.0, leb-true n 244 b.1)
-
 pub suits_room : (k : Kind) (l n : ℕ) → suits k l n ≡ true → (header k + word_length l ≤ n) × (n ≤ header k + most k l + word_length l)
 suits_room k l n e =
     let b = both_true (leb (header k + word_length l) n) (leb n (header k + most k l + word_length l)) e in

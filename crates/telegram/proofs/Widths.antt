@@ -2,12 +2,11 @@
 -- Assumes nothing.
 use mathlib.Core.Path.{◌≡◌, refl}
 use mathlib.Core.Bool.{Bool, true, false}
-use mathlib.Core.List.{List, ◌++◌}
+use mathlib.Core.List.{List}
 use Prim.Native.Nat.{ℕ, ◌*◌, ◌≤◌}
 use lib.Dec.{lit≤, eqb}
 use borrow.Author.Tests.{ne_eqb}
 use Rattle.checkword.specs.Bytes.{bytes_of}
-use Rattle.checkword.specs.Word.{word}
 use Rattle.checkword.specs.Polynomial.{Generator}
 use Rattle.checkword.specs.Generators.{generator48, generator32, good48, good32}
 use Rattle.ground.specs.Choice.{pick}
@@ -62,11 +61,3 @@ four l h = rw (ne_eqb l 4 h)
 pub top_small : (l : ℕ) → top_bits l ≤ 2
 unfolding top_bits
 top_small l = either (λ (n : ℕ). n ≤ 2) (eqb l 4) 2 0 (lit≤ tt) (lit≤ tt)
-
-pub check_four : (l w : ℕ) (before t : List ℕ) → l ≡ 4 → w ≡ word 48 generator48 (before ++ t) → w ≡ check_word l before t
-unfolding pick width generator check_word
-check_four l w before t e p = rw e p
-
-pub check_two : (l w : ℕ) (before t : List ℕ) → (l ≡ 4 → ⊥) → w ≡ word 32 generator32 (before ++ t) → w ≡ check_word l before t
-unfolding pick width generator check_word
-check_two l w before t h p = rw (ne_eqb l 4 h) p

@@ -41,6 +41,7 @@ pub fn added_number(level: u32) -> u32
 }
 
 // The level's check word of two runs, one after the other. The check and the writers have it from here; neither lays the runs end to end.
+#[tactic(auto, using(ground::specs::Choice::tests), unfolding(crate::specs::Telegrams::check_word, crate::specs::Levels::width, crate::specs::Levels::generator))]
 pub fn word_of(level: u32, first: &[u8], second: &[u8]) -> u64
     ensures { result ≡ check_word level first.now second.now }
 {
