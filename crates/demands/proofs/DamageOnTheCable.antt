@@ -10,6 +10,7 @@ use native.Mathlib.Omega.{arith}
 use lib.ListN.{length, set}
 use lib.Seq.{set-get_or}
 use borrow.Author.Tests.{le-leb}
+use Rattle.std.specs.Prelude.{Option}
 use Rattle.ground.specs.Choice.{pick}
 use Rattle.telegram.specs.Levels.{word_length}
 use Rattle.telegram.specs.Commands.{kind_of_command}
@@ -26,7 +27,6 @@ use Rattle.telegram.proofs.Widths.{width_is}
 use Rattle.link.specs.Records.{end_of}
 use Rattle.link.specs.Judged.{expected_now}
 use Rattle.link.specs.declared.Record.{Record}
-use Rattle.link.specs.declared.IdleTime.{IdleTime}
 use Rattle.link.specs.declared.Event.{Event}
 use Rattle.link.specs.declared.Event.TheVariants as event
 use Rattle.node.specs.declared.Head.{Head}
@@ -135,7 +135,7 @@ unfolding data_of pick
 nothing_of e u reason last p = rw (p, le-leb 0 (length u) (omega arith)) refl
 
 -- the receipt of what came, for the record at place i
-module _ (w : Route) (random : ℕ) (idle_time : IdleTime) (t u net : List ℕ) (h : Head) (table : List Record) (i time : ℕ) (d : List ℕ) (c : ComesDamaged w h table i t u) where
+module _ (w : Route) (random : ℕ) (idle_time : Option ℕ) (t u net : List ℕ) (h : Head) (table : List Record) (i time : ℕ) (d : List ℕ) (c : ComesDamaged w h table i t u) where
   abbrev x : Receipt
   x = record { route = w; random = random; idle_time = idle_time; telegram = u; net = net; head = h; table = table; time = time; buffer = d }
 

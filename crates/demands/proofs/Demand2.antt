@@ -8,6 +8,7 @@ use native.Mathlib.Omega.{arith}
 use lib.ListN.{length, get_or}
 use lib.Dec.{leb, ltb, eqb}
 use borrow.Author.Tests.{eq-eqb, eqb-false, ne_eqb, le-leb, le-ltb, lt-ltb}
+use Rattle.std.specs.Prelude.{Option}
 use Rattle.checkword.specs.Bytes.{Bytes}
 use Rattle.ground.specs.Choice.{pick}
 use Rattle.telegram.specs.Ends.{mirrored}
@@ -35,7 +36,6 @@ use Rattle.link.specs.Judged.{row_of, ruled, narrowed, checked_by, expected_now,
 use Rattle.link.specs.Steps.{first_refusal, neb, next, taken, sent, declared_by, tick_refusal, tick_of, tick_out, received_refusal, received_of, received_out, open_refusal}
 use Rattle.link.specs.Plain.{happened}
 use Rattle.link.specs.declared.Record.{Record}
-use Rattle.link.specs.declared.IdleTime.{IdleTime}
 use Rattle.link.specs.declared.Answer.{Answer}
 use Rattle.link.proofs.Facts.{by_the_table}
 use Rattle.link.proofs.Answers.{answers}
@@ -66,7 +66,7 @@ record Link (h : Head) (t : List Record) (i : ℕ) (k : Head) (u : List Record) 
   open_to : OpenTo h.own (record_at t i) k.own (record_at u j)
 
 -- the call with which the partner takes what a call for the record r of the node h wrote
-abbrev arrival : Left → Head → Record → ℕ → IdleTime → List ℕ → Head → List Record → ℕ → List ℕ → Receipt
+abbrev arrival : Left → Head → Record → ℕ → Option ℕ → List ℕ → Head → List Record → ℕ → List ℕ → Receipt
 arrival l h r random idle net k u at e =
     record { route = route_from h.own r; random = random; idle_time = idle; telegram = telegram_of l; net = net; head = k; table = u; time = at; buffer = e }
 
@@ -114,7 +114,7 @@ pub mirror_place : (a : ℕ) (r : Record) (k : Head) (u : List Record) (j : ℕ)
 mirror_place a r k u j good m l = by_route.only (route_from a r) k u j good l (for_mirror a k.own r (record_at u j) m)
 
 -- a telegram that arrives is not refused where nothing is wrong with the table, the buffer, the time and what is lent
-pub received_done : (a : ℕ) (r : Record) (k : Head) (u : List Record) (j at random : ℕ) (i : IdleTime) (x net e : List ℕ) → accepted k u ≡ true → 244 ≤ length e → k.latest ≤ at
+pub received_done : (a : ℕ) (r : Record) (k : Head) (u : List Record) (j at random : ℕ) (i : Option ℕ) (x net e : List ℕ) → accepted k u ≡ true → 244 ≤ length e → k.latest ≤ at
     → on_bus (length x) ≡ true → Mirror a r k.own (record_at u j) → j < length u → ((record_at u j).phase ≡ 6 → ⊥)
     → connect_allowed (declared_by i) (length net) (record_at u j).level ≡ true → Done (called (Received (route_from a r) random i x net) k u at e)
 received_done a r k u j at random i x net e good room timely carried m l live allowed =
@@ -126,7 +126,7 @@ passes_there : (a b : ℕ) (r q : Record) (x : List ℕ) → OpenTo a r b q → 
 passes_there a b r q x o p = rw (o.ends, o.number) p
 
 -- what an open end wrote, as its mirrored record takes it: by its kind
-taken_there : (l : Left) (h k : Head) (t u : List Record) (i j at random : ℕ) (idle : IdleTime) (spare e : List ℕ) (v : Kind) (vs net : List ℕ)
+taken_there : (l : Left) (h k : Head) (t u : List Record) (i j at random : ℕ) (idle : Option ℕ) (spare e : List ℕ) (v : Kind) (vs net : List ℕ)
     → Link h t i k u j → watch_over (record_at u j) at ≡ false → Taken (end_of (record_at t i) h.own) (record_at t i).sending (telegram_of l) v vs net
     → Done (takes called (arrival l h (record_at t i) random idle spare k u at e))
     → Does (takes called (arrival l h (record_at t i) random idle spare k u at e)) e j
@@ -199,7 +199,7 @@ low_back l number low e net small = modulo (top_bits e.level) low small
     modulo : (m n : ℕ) → n < 64 → (m * 64 + n) % 64 ≡ n
     modulo m n s = omega arith
 
-module _ (h k : Head) (t u : List Record) (i j low time at random : ℕ) (idle_time : IdleTime) (net spare d e : List ℕ) where
+module _ (h k : Head) (t u : List Record) (i j low time at random : ℕ) (idle_time : Option ℕ) (net spare d e : List ℕ) where
   abbrev r : Record
   r = record_at t i
 
@@ -271,7 +271,7 @@ due_sends r time p due =
     by_the_table.due r time p (open_in_time r time p due.in_time)
     (rw (ne_eqb r.declared 0 due.declares) (le-leb r.declared (2 * gap r.sent_at time) (let h = due.half in omega arith)))
 
-module _ (h k : Head) (t u : List Record) (i j time at random : ℕ) (idle_time : IdleTime) (spare d e : List ℕ) where
+module _ (h k : Head) (t u : List Record) (i j time at random : ℕ) (idle_time : Option ℕ) (spare d e : List ℕ) where
   abbrev rᵢ : Record
   rᵢ = record_at t i
 
@@ -400,7 +400,7 @@ open_ticked r time p =
     by false false = tick_rests refl
 
 -- opening is refused there
-not_opened : (r : Record) (own : ℕ) (i : IdleTime) (net d : List ℕ) → r.phase ≡ 5 → open_refusal r own i net d ≡ 0 → ⊥
+not_opened : (r : Record) (own : ℕ) (i : Option ℕ) (net d : List ℕ) → r.phase ≡ 5 → open_refusal r own i net d ≡ 0 → ⊥
 unfolding open_refusal first_refusal pick
 not_opened r own i net d p z =
     let ok = connect_allowed (declared_by i) (length net) r.level in
@@ -500,7 +500,7 @@ unfolding tick_of tick_out
 tick_disconnects h t i time d reason last v g =
     let r = record_at t i in rw v (act_closes (tick_refusal r h.own d) reason last r h.own time 0 0 [] [] d (rw v at g.number))
 
-receipt_disconnects : (h : Head) (t : List Record) (w : Route) (random : ℕ) (idle_time : IdleTime) (telegram net : List ℕ) (time : ℕ) (d : List ℕ) (reason : ℕ) (last : Bool)
+receipt_disconnects : (h : Head) (t : List Record) (w : Route) (random : ℕ) (idle_time : Option ℕ) (telegram net : List ℕ) (time : ℕ) (d : List ℕ) (reason : ℕ) (last : Bool)
     → judged (record_at t (first_match w t)) h.own time telegram ≡ Closes reason last → Carried (Received w random idle_time telegram net) h t time d
     → Disconnects (record_at t (first_match w t)) h.own d (step_in (Received w random idle_time telegram net) h t time d)
     (step_out (Received w random idle_time telegram net) (record_at t (first_match w t)) h.own time d) reason last []

@@ -9,6 +9,7 @@ use lib.ListN.{length, drop}
 use lib.Seq.{get_or-set_same}
 use lib.Dec.{leb, eqb}
 use borrow.Author.Tests.{ne_eqb, leb-true, eqb-true, eqb-false}
+use Rattle.std.specs.Prelude.{Option}
 use Rattle.ground.specs.Choice.{pick}
 use Rattle.telegram.specs.Fields.{type_of, reason_of}
 use Rattle.telegram.specs.Values.{good_type, listed_reason}
@@ -22,7 +23,6 @@ use Rattle.link.specs.Records.{end_of, closed_by}
 use Rattle.link.specs.Judged.{judged, ticked}
 use Rattle.link.specs.Steps.{unless_step, unless_out, refused_step, quietly, writing_step, taken, sent, act_of, act_out, declared_by, open_refusal, open_of, open_out, close_refusal, close_of, close_out, send_refusal, send_of, send_out, received_refusal, received_of, received_out, tick_refusal, tick_of, tick_out}
 use Rattle.link.specs.declared.Record.{Record}
-use Rattle.link.specs.declared.IdleTime.{IdleTime}
 use Rattle.link.specs.declared.Step.{Step}
 use Rattle.link.specs.declared.Answer.{Answer}
 use Rattle.link.specs.declared.Event.{Event}
@@ -143,7 +143,7 @@ module _ (h : Head) (t : List Record) (i time : ℕ) (d : List ℕ) where
   abbrev r : Record
   r = record_at t i
 
-  pub open_does : (random : ℕ) (idle_time : IdleTime) (net : List ℕ) → Done (called (Open i random idle_time net) h t time d)
+  pub open_does : (random : ℕ) (idle_time : Option ℕ) (net : List ℕ) → Done (called (Open i random idle_time net) h t time d)
       → Does (called (Open i random idle_time net) h t time d) d i (asking r h.own time random (declared_by idle_time) net)
   unfolding open_of open_out writes_request
   open_does random idle_time net done =

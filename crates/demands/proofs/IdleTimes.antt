@@ -7,6 +7,7 @@ use Prim.Native.Nat.{ℕ, ◌%◌, ◌≤◌, ◌<◌}
 use native.Mathlib.Omega.{arith}
 use lib.ListN.{length, take, drop}
 use borrow.Author.Tests.{leb-false, le-leb, eq-eqb}
+use Rattle.std.specs.Prelude.{Option, Some, None}
 use Rattle.ground.specs.Choice.{pick}
 use Rattle.ground.specs.Numbers.{lowest_first}
 use Rattle.telegram.specs.Commands.{kind_of}
@@ -18,9 +19,7 @@ use Rattle.telegram.specs.declared.End.{End}
 use Rattle.telegram.specs.declared.Kind.TheVariants.{Request}
 use Rattle.link.specs.Records.{become}
 use Rattle.link.specs.Steps.{declared_by}
-use Rattle.link.specs.Facts.{naming, none_named}
 use Rattle.link.specs.declared.Record.{Record}
-use Rattle.link.specs.declared.IdleTime.{IdleTime}
 use Rattle.link.proofs.Facts.{unnamed}
 use Rattle.node.specs.declared.Head.{Head}
 use Rattle.node.specs.Accepted.{record_at}
@@ -83,7 +82,7 @@ good_by : (time : ℕ) → time ≤ 65500 → time % 100 ≡ 0 → good_idle tim
 unfolding good_idle pick
 good_by time most_is hundreds = rw (le-leb time 65500 most_is, eq-eqb (time % 100) 0 hundreds) refl
 
-declares : (i : IdleTime) (time : ℕ) (bytes : List ℕ) → declared_by i ≡ time → lowest_first 2 time ≡ bytes → Declares called i time bytes
+declares : (i : Option ℕ) (time : ℕ) (bytes : List ℕ) → declared_by i ≡ time → lowest_first 2 time ≡ bytes → Declares called i time bytes
 unfolding become asked
 declares i time bytes known written =
     record {
@@ -119,20 +118,15 @@ keeps_1000 h t i T U sent_at taken_at T-is U-is phase w =
       silence = λ time d late. silence_closes_here (Tick i) h t i time d (LooksAt.tick refl) phase (λ e. omega arith) (omega arith);
     }
 
--- None named, as a record may have it.
-none_named_lem : (i : IdleTime) → i.named ≡ false → declared_by i ≡ 1000
-unfolding declared_by pick
-none_named_lem i none = rw none refl
-
 pub demand_2_idle_times : Demand2IdleTimes called
 demand_2_idle_times =
     record {
-      none = λ beside. declares (none_named beside) 1000 (0xE8 ∷ 0x03 ∷ []) (unnamed.declares beside) refl;
-      named = λ time. declares (naming time) time (lowest_first 2 time) (unnamed.named time) refl;
+      none = declares None 1000 (0xE8 ∷ 0x03 ∷ []) unnamed.declares refl;
+      named = λ time. declares (Some time) time (lowest_first 2 time) (unnamed.named time) refl;
       neither = λ p first second s done.
           let both = demand_2_set_up p s done in
-          let T = none_named_lem p.first.idle_time first in
-          let U = none_named_lem p.second.idle_time second in
+          let T = ap declared_by first ∙ unnamed.declares in
+          let U = ap declared_by second ∙ unnamed.declares in
           record {
             opener = keeps_1000 _ _ p.i _ _ p.third.time p.fifth.time T U both.connected.towards.open_to.open_here both.opener_watches;
             responder = keeps_1000 _ _ p.j _ _ p.fourth.time p.fourth.time U T both.connected.towards.open_to.open_there both.responder_watches;

@@ -8,6 +8,7 @@ use Prim.Native.Nat.{ℕ, zero, suc}
 use native.Mathlib.Omega.{arith}
 use lib.ListN.{length, take, drop}
 use borrow.Author.Tests.{eq-eqb, ne_eqb}
+use Rattle.std.specs.Prelude.{Option}
 use Rattle.ground.specs.Choice.{pick}
 use Rattle.telegram.specs.Commands.{kind_of_command}
 use Rattle.telegram.specs.Writers.{answer_of, left_by, unless}
@@ -20,7 +21,6 @@ use Rattle.link.specs.Times.{watch_over}
 use Rattle.link.specs.Judged.{row_of, ruled, narrowed, expected_now, run_out, judged}
 use Rattle.link.specs.Steps.{unless_step, unless_out, refused_step, writing_step, act_of, declared_by, received_refusal, received_of}
 use Rattle.link.specs.declared.Record.{Record}
-use Rattle.link.specs.declared.IdleTime.{IdleTime}
 use Rattle.link.specs.declared.Step.{Step}
 use Rattle.link.specs.declared.Event.{Event}
 use Rattle.link.proofs.Facts.{by_the_table}
@@ -49,7 +49,7 @@ writes zero (suc m) x d r q kind e z = let f = ne_eqb (suc m) 0 (λ y. omega ari
 writes (suc n) m x d r q kind e z = let f = ne_eqb (suc n) 0 (λ y. omega arith) in let y : suc n ≡ 0 = (rw f at z) in absurd (omega arith)
 
 -- a received telegram that is not refused is judged and acted upon
-pub taken_in : (q : Record) (b at random : ℕ) (i : IdleTime) (u net e : List ℕ) → (received_of q b at random i u net e).answer.number ≡ 0
+pub taken_in : (q : Record) (b at random : ℕ) (i : Option ℕ) (u net e : List ℕ) → (received_of q b at random i u net e).answer.number ≡ 0
     → received_of q b at random i u net e ≡ act_of (judged q b at u) q b at random (declared_by i) u net e
 unfolding received_of pick
 taken_in q b at random i u net e z =

@@ -7,6 +7,7 @@ use Prim.Native.Nat.{ℕ, zero, suc, ◌+◌, ◌≤◌}
 use lib.ListN.{length, replicate}
 use lib.Dec.{lit≤}
 use borrow.Author.Tests.{le-leb, lt-ltb, ne_eqb}
+use Rattle.std.specs.Prelude.{Some}
 use Rattle.ground.specs.Choice.{pick}
 use Rattle.telegram.specs.Levels.{top_bits, word_length, added, level_of}
 use Rattle.telegram.specs.Commands.{is_data, kind_of}
@@ -23,7 +24,6 @@ use Rattle.telegram.specs.declared.Clause.TheVariants as clause
 use Rattle.telegram.proofs.Sealing.{telegram_length}
 use Rattle.telegram.proofs.Taken.{data_taken}
 use Rattle.link.specs.Steps.{declared_by, first_refusal, open_refusal}
-use Rattle.link.specs.Facts.{naming}
 use Rattle.link.proofs.Answers.{answers}
 use Rattle.node.specs.Accepted.{record_at}
 use Rattle.node.specs.Matching.{first_match}
@@ -64,7 +64,7 @@ idle_time_answers time n known =
       by_request = λ e random net d r room fit. connect_answers e time net d _ r room fit ∙ known;
       by_confirm = λ e random net d r room fit. connect_answers e time net d _ r room fit ∙ known;
       by_link = λ r own clock random net d ranged room p fit.
-          answers.by_open r own clock random (naming time) net d
+          answers.by_open r own clock random (Some time) net d
           ∙ rw (ranged, le-leb longest (length d) room, p, fitting time (length net) r.level fit) known;
       by_open = λ h t clock place random net d good room timely there p fit.
           first_answered _ h t clock d

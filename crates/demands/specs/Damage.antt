@@ -1,7 +1,7 @@
 -- Damage on the cable: a telegram that passes the check of a record, changed on its way within as many neighbouring bytes as its check word has, passes it no
 -- more; and what the record does with it. crates/worked/specs has worked examples, in Damage.antt, and what isn't so, in DamageLimits.antt.
 -- Assumes nothing.
-use Rattle.std.specs.Prelude.{◌≡◌, false, List, [], ◌++◌, ◌⊎◌, ℕ, ◌*◌, ◌≤◌, length, take, drop}
+use Rattle.std.specs.Prelude.{◌≡◌, false, List, [], ◌++◌, ◌⊎◌, ℕ, ◌*◌, ◌≤◌, length, take, drop, Option}
 use Rattle.checkword.specs.Bytes.{Bytes, Within}
 use Rattle.checkword.specs.Polynomial.{Generator}
 use Rattle.checkword.specs.Word.{Agrees}
@@ -16,7 +16,6 @@ use Rattle.telegram.specs.declared.Check.TheVariants.{Passes, Failed}
 use Rattle.link.specs.Records.{end_of}
 use Rattle.link.specs.Judged.{expected_now}
 use Rattle.link.specs.declared.Record.{Record}
-use Rattle.link.specs.declared.IdleTime.{IdleTime}
 use Rattle.link.specs.declared.Event.TheVariants.{Nothing}
 use Rattle.node.specs.declared.Head.{Head}
 use Rattle.node.specs.declared.Route.{Route}
@@ -138,14 +137,14 @@ pub record TurnedAway (l : Left) (h : Head) (table : List Record) (d : List ℕ)
 
 abbrev pub DamageCloses : Type 0
 DamageCloses =
-    (w : Route) (random : ℕ) (idle_time : IdleTime) (t u net : List ℕ) (h : Head) (table : List Record) (i time : ℕ) (d : List ℕ)
+    (w : Route) (random : ℕ) (idle_time : Option ℕ) (t u net : List ℕ) (h : Head) (table : List Record) (i time : ℕ) (d : List ℕ)
     → ComesDamaged w h table i t u → Listens (record_at table i) time → Done (called (Received w random idle_time u net) h table time d)
     → TurnedAway (called (Received w random idle_time u net) h table time d) h table d i u
 
 -- Where its disconnect arrives, the partner's end is closed with 06h too.
 abbrev pub DamageClosesBoth : Type 0
 DamageClosesBoth =
-    (n : Nodes) (i j random : ℕ) (idle_time : IdleTime) (w : Route) (t u net : List ℕ) (m : Moment) → Towards n i j → ComesDamaged w n.head n.table i t u
+    (n : Nodes) (i j random : ℕ) (idle_time : Option ℕ) (w : Route) (t u net : List ℕ) (m : Moment) → Towards n i j → ComesDamaged w n.head n.table i t u
     → InTime (record_at n.table i) m.sent_at → Arrives called n i j (Received w random idle_time u net) m
     → ClosedWith called n i j (Received w random idle_time u net) m 0x06 false []
 
@@ -159,7 +158,7 @@ pub record Dropped (l : Left) (table : List Record) (d : List ℕ) : Type 0 wher
 -- So it is on a closed record (1), of every telegram: a damaged connect request sets up no connection.
 abbrev pub DamageIsDroppedWhenClosed : Type 0
 DamageIsDroppedWhenClosed =
-    (w : Route) (random : ℕ) (idle_time : IdleTime) (t u net : List ℕ) (h : Head) (table : List Record) (i time : ℕ) (d : List ℕ)
+    (w : Route) (random : ℕ) (idle_time : Option ℕ) (t u net : List ℕ) (h : Head) (table : List Record) (i time : ℕ) (d : List ℕ)
     → ComesDamaged w h table i t u → (record_at table i).phase ≡ 1 → Done (called (Received w random idle_time u net) h table time d)
     → Dropped (called (Received w random idle_time u net) h table time d) table d
 

@@ -2,7 +2,7 @@
 -- refused call changes nothing. That no public function asks for anything (no `requires`) is looked up in the sources by .ci/no-requires; that each ends is
 -- part of what it means to be proved.
 -- Assumes nothing.
-use Rattle.std.specs.Prelude.{◌≡◌, Bool, true, false, List, [], ◌∷◌, ◌⊎◌, ℕ, length, leb}
+use Rattle.std.specs.Prelude.{◌≡◌, Bool, true, false, List, [], ◌∷◌, ◌⊎◌, ℕ, length, leb, Option}
 use Rattle.telegram.specs.Layout.{longest, on_bus}
 use Rattle.telegram.specs.Ends.{in_range}
 use Rattle.telegram.specs.Writers.{Outcome, answer_of, left_by, connect_allowed, disconnect_allowed, data_allowed, writes_request, writes_confirm, writes_authentication, writes_acknowledgement, writes_disconnect, writes_idle, writes_data}
@@ -11,20 +11,19 @@ use Rattle.telegram.specs.declared.End.{End}
 use Rattle.link.specs.Steps.{open_of, open_out, close_of, close_out, send_of, send_out, received_of, received_out, tick_of, tick_out}
 use Rattle.link.specs.Facts.{Answers}
 use Rattle.link.specs.declared.Record.{Record}
-use Rattle.link.specs.declared.IdleTime.{IdleTime}
 use Rattle.node.specs.Refusals.{first}
 use Rattle.node.specs.Calls.{Link}
 use Rattle.node.specs.Facts.{FirstAnswered, RefusedChangesNothing, DoneSetsTheTime}
 
 -- A step of one connection that is refused leaves record and buffer as they were.
 pub record RefusedStepsChangeNothing : Type 0 where
-  pub by_open : (r : Record) (own time random : ℕ) (i : IdleTime) (net d : List ℕ) → ((open_of r own time random i net d).answer.number ≡ 0 → ⊥)
+  pub by_open : (r : Record) (own time random : ℕ) (i : Option ℕ) (net d : List ℕ) → ((open_of r own time random i net d).answer.number ≡ 0 → ⊥)
       → ((open_of r own time random i net d).«record» ≡ r) × (open_out r own random i net d ≡ d)
   pub by_close : (r : Record) (own type reason : ℕ) (text d : List ℕ) → ((close_of r own type reason text d).answer.number ≡ 0 → ⊥)
       → ((close_of r own type reason text d).«record» ≡ r) × (close_out r own type reason text d ≡ d)
   pub by_send : (r : Record) (own time low : ℕ) (net d : List ℕ) → ((send_of r own time low net d).answer.number ≡ 0 → ⊥)
       → ((send_of r own time low net d).«record» ≡ r) × (send_out r own low net d ≡ d)
-  pub by_received : (r : Record) (own time random : ℕ) (i : IdleTime) (t net d : List ℕ) → ((received_of r own time random i t net d).answer.number ≡ 0 → ⊥)
+  pub by_received : (r : Record) (own time random : ℕ) (i : Option ℕ) (t net d : List ℕ) → ((received_of r own time random i t net d).answer.number ≡ 0 → ⊥)
       → ((received_of r own time random i t net d).«record» ≡ r) × (received_out r own time random i t net d ≡ d)
   pub by_tick : (r : Record) (own time : ℕ) (d : List ℕ) → ((tick_of r own time d).answer.number ≡ 0 → ⊥)
       → ((tick_of r own time d).«record» ≡ r) × (tick_out r own time d ≡ d)

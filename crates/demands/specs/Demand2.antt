@@ -1,6 +1,6 @@
 -- Demand 2: what an open end writes, its mirrored record takes, and net data come up unchanged; a call for one connection changes no other.
 -- Assumes nothing.
-use Rattle.std.specs.Prelude.{◌≡◌, Bool, true, false, List, [], ℕ, ◌+◌, ◌<◌, length, eqb}
+use Rattle.std.specs.Prelude.{◌≡◌, Bool, true, false, List, [], ℕ, ◌+◌, ◌<◌, length, eqb, Option}
 use Rattle.checkword.specs.Bytes.{Bytes}
 use Rattle.telegram.specs.Writers.{data_allowed, disconnect_allowed}
 use Rattle.telegram.specs.Check.{check_of}
@@ -8,7 +8,6 @@ use Rattle.telegram.specs.declared.Check.TheVariants.{Passes}
 use Rattle.link.specs.Records.{end_of}
 use Rattle.link.specs.Plain.{happened}
 use Rattle.link.specs.declared.Record.{Record}
-use Rattle.link.specs.declared.IdleTime.{IdleTime}
 use Rattle.link.specs.declared.Event.{Event}
 use Rattle.node.specs.declared.Head.{Head}
 use Rattle.node.specs.declared.Route.{Route}
@@ -77,7 +76,7 @@ SilenceCloses link =
 -- Received by itself closes both where a telegram for the record comes in time and doesn't pass the check, with 06h and not finally.
 abbrev pub IncorrectCloses : Link → Type 0
 IncorrectCloses link =
-    (n : Nodes) (i j random : ℕ) (idle_time : IdleTime) (w : Route) (telegram net : List ℕ) (m : Moment) → Towards n i j → first_match w n.table ≡ i
+    (n : Nodes) (i j random : ℕ) (idle_time : Option ℕ) (w : Route) (telegram net : List ℕ) (m : Moment) → Towards n i j → first_match w n.table ≡ i
     → InTime (record_at n.table i) m.sent_at
     → (check_of (end_of (record_at n.table i) n.head.own) (record_at n.table i).expected telegram ≡ Passes → ⊥)
     → Arrives link n i j (Received w random idle_time telegram net) m

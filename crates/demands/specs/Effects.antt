@@ -1,7 +1,7 @@
 -- What a call does with the record that it is for, as one value, after the actions of the transition table (5.5.1.4): the event, the record afterwards, and the
 -- telegram with its bytes. And the receipt of a telegram with all that it is given.
 -- Assumes nothing.
-use Rattle.std.specs.Prelude.{◌≡◌, Bool, List, [], ◌++◌, ℕ, length, drop}
+use Rattle.std.specs.Prelude.{◌≡◌, Bool, List, [], ◌++◌, ℕ, length, drop, Option}
 use Rattle.ground.specs.Choice.{pick}
 use Rattle.telegram.specs.Fields.{random_of, idle_time_of, low_of}
 use Rattle.telegram.specs.NetData.{net_part}
@@ -14,7 +14,6 @@ use Rattle.link.specs.Records.{end_of, become, closed_by}
 use Rattle.link.specs.Judged.{back, expected_now}
 use Rattle.link.specs.Steps.{next}
 use Rattle.link.specs.declared.Record.{Record}
-use Rattle.link.specs.declared.IdleTime.{IdleTime}
 use Rattle.link.specs.declared.Event.{Event}
 use Rattle.link.specs.declared.Event.TheVariants.{Nothing, Opened, Data, Closed}
 use Rattle.node.specs.declared.Head.{Head}
@@ -119,7 +118,7 @@ closed_by_partner r reason last = record { event = Closed reason last; after = c
 pub record Receipt : Type 0 where
   pub route : Route
   pub random : ℕ
-  pub idle_time : IdleTime
+  pub idle_time : Option ℕ
   pub telegram : List ℕ
   pub net : List ℕ
   pub head : Head

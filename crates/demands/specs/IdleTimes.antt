@@ -1,13 +1,11 @@
 -- Demand 2, the idle times that are declared, in numbers: an opening and a confirm declare the time that is named, 0 too, and 1,000 where none is (change
 -- request e). OneEnd.antt and SetUp.antt state them by `declared_by`; here that definition is not named, so that a fault in it is seen too.
 -- Assumes nothing.
-use Rattle.std.specs.Prelude.{◌≡◌, false, List, [], ◌∷◌, ℕ, ◌+◌, ◌%◌, ◌≤◌, ◌<◌, length, take, drop}
+use Rattle.std.specs.Prelude.{◌≡◌, false, List, [], ◌∷◌, ℕ, ◌+◌, ◌%◌, ◌≤◌, ◌<◌, length, take, drop, Option, Some, None}
 use Rattle.ground.specs.Numbers.{lowest_first}
 use Rattle.telegram.specs.Layout.{most}
 use Rattle.telegram.specs.declared.Kind.TheVariants.{Request}
-use Rattle.link.specs.Facts.{naming, none_named}
 use Rattle.link.specs.declared.Record.{Record}
-use Rattle.link.specs.declared.IdleTime.{IdleTime}
 use Rattle.node.specs.declared.Head.{Head}
 use Rattle.node.specs.Accepted.{record_at}
 use Rattle.node.specs.Calls.{Left, Link}
@@ -25,7 +23,7 @@ pub record Carries (l : Left) (place time : ℕ) (bytes : List ℕ) : Type 0 whe
 
 -- A call that is given this idle time declares that time, by these bytes, where it opens and where it confirms. And a time that a telegram may carry (5.2.1.3) is
 -- not the cause of answer 5: that comes from net data which are too long.
-pub record Declares (link : Link) (i : IdleTime) (time : ℕ) (bytes : List ℕ) : Type 0 where
+pub record Declares (link : Link) (i : Option ℕ) (time : ℕ) (bytes : List ℕ) : Type 0 where
   pub opening : (place random : ℕ) (net : List ℕ) (h : Head) (t : List Record) (now : ℕ) (d : List ℕ) → Done (link (Open place random i net) h t now d)
       → Carries (link (Open place random i net) h t now d) place time bytes
   pub confirming : (x : Receipt) → x.idle_time ≡ i → (record_for x).phase ≡ 1 → GoodRequest x → Done (takes link x) → Carries (takes link x) (place_for x) time bytes
@@ -51,6 +49,6 @@ pub record BothKeep1000 (link : Link) (p : Parties) : Type 0 where
 
 -- Where none is named 1,000, lowest byte first (5.1.1.6), else the time that is; and where neither end names one, both keep 1,000.
 pub record Demand2IdleTimes (link : Link) : Type 0 where
-  pub none : (beside : ℕ) → Declares link (none_named beside) 1000 (0xE8 ∷ 0x03 ∷ [])
-  pub named : (time : ℕ) → Declares link (naming time) time (lowest_first 2 time)
-  pub neither : (p : Parties) → p.first.idle_time.named ≡ false → p.second.idle_time.named ≡ false → Undisturbed link p → AllDone link p → BothKeep1000 link p
+  pub none : Declares link None 1000 (0xE8 ∷ 0x03 ∷ [])
+  pub named : (time : ℕ) → Declares link (Some time) time (lowest_first 2 time)
+  pub neither : (p : Parties) → p.first.idle_time ≡ None → p.second.idle_time ≡ None → Undisturbed link p → AllDone link p → BothKeep1000 link p

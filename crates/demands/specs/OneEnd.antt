@@ -2,7 +2,7 @@
 -- is refused): what is said, the record afterwards, and the telegram that goes out. Then what alone opens a connection, what alone hands up data, and that what is
 -- finally closed stays so.
 -- Assumes nothing.
-use Rattle.std.specs.Prelude.{◌≡◌, Bool, true, false, List, [], ◌⊎◌, ℕ, ◌+◌, ◌≤◌, ◌<◌, length, eqb}
+use Rattle.std.specs.Prelude.{◌≡◌, Bool, true, false, List, [], ◌⊎◌, ℕ, ◌+◌, ◌≤◌, ◌<◌, length, eqb, Option}
 use Rattle.telegram.specs.Fields.{authentication_of, type_of, reason_of}
 use Rattle.telegram.specs.Commands.{kind_of_command}
 use Rattle.telegram.specs.Telegrams.{authentication_number}
@@ -15,7 +15,6 @@ use Rattle.link.specs.Judged.{back, good_version}
 use Rattle.link.specs.Steps.{declared_by}
 use Rattle.link.specs.Plain.{happened}
 use Rattle.link.specs.declared.Record.{Record}
-use Rattle.link.specs.declared.IdleTime.{IdleTime}
 use Rattle.link.specs.declared.Event.TheVariants.{Opened}
 use Rattle.node.specs.declared.Head.{Head}
 use Rattle.node.specs.declared.Route.{Route}
@@ -33,7 +32,7 @@ use Rattle.demands.specs.Demand2.{IsClosed}
 -- A call that looks at the timers of the record at place i: a tick of it, or any telegram for it.
 pub data LooksAt (c : Call) (t : List Record) (i : ℕ) : Type 0 where
   tick : c ≡ Tick i → LooksAt c t i
-  receipt : (w : Route) (random : ℕ) (idle_time : IdleTime) (telegram net : List ℕ) → c ≡ Received w random idle_time telegram net → first_match w t ≡ i → LooksAt c t i
+  receipt : (w : Route) (random : ℕ) (idle_time : Option ℕ) (telegram net : List ℕ) → c ≡ Received w random idle_time telegram net → first_match w t ≡ i → LooksAt c t i
 
 -- More than the watched time after the last telegram was taken, such a call closes an open connection with 05h, not finally (5.2.5.7.4,
 -- 5.2.6.3, 5.2.6.4).
@@ -151,7 +150,7 @@ PartnerClosesHere link =
 
 -- Opening writes a request, sending a data telegram, and closing a disconnect with this reason and text, final where the type is 0.
 pub record CallsOfOurs (link : Link) : Type 0 where
-  pub opens : (i random : ℕ) (idle_time : IdleTime) (net : List ℕ) (h : Head) (t : List Record) (time : ℕ) (d : List ℕ) → Done (link (Open i random idle_time net) h t time d)
+  pub opens : (i random : ℕ) (idle_time : Option ℕ) (net : List ℕ) (h : Head) (t : List Record) (time : ℕ) (d : List ℕ) → Done (link (Open i random idle_time net) h t time d)
       → Does (link (Open i random idle_time net) h t time d) d i (asking (record_at t i) h.own time random (declared_by idle_time) net)
   pub sends : (i low : ℕ) (net : List ℕ) (h : Head) (t : List Record) (time : ℕ) (d : List ℕ) → Done (link (Send i low net) h t time d)
       → Does (link (Send i low net) h t time d) d i (sending_data (record_at t i) h.own time low net)

@@ -1,12 +1,11 @@
 -- Two nodes, the two ends of a connection between them, and a telegram from one to the other, whatever link they run: `called` is ours.
 -- Assumes nothing.
-use Rattle.std.specs.Prelude.{◌≡◌, true, List, [], ◌∷◌, ℕ, ◌+◌, ◌*◌, ◌≤◌, ◌<◌, length, take}
+use Rattle.std.specs.Prelude.{◌≡◌, true, List, [], ◌∷◌, ℕ, ◌+◌, ◌*◌, ◌≤◌, ◌<◌, length, take, Option}
 use Rattle.telegram.specs.Ends.{mirrored}
 use Rattle.telegram.specs.Writers.{connect_allowed}
 use Rattle.link.specs.Records.{end_of}
 use Rattle.link.specs.Steps.{declared_by}
 use Rattle.link.specs.declared.Record.{Record}
-use Rattle.link.specs.declared.IdleTime.{IdleTime}
 use Rattle.node.specs.declared.Head.{Head}
 use Rattle.node.specs.declared.Route.{Route}
 use Rattle.node.specs.Accepted.{record_at, accepted}
@@ -72,7 +71,7 @@ pub record Moment : Type 0 where
   pub buffer : List ℕ
   pub buffer' : List ℕ
   pub random : ℕ
-  pub idle_time : IdleTime
+  pub idle_time : Option ℕ
   pub net : List ℕ
 
 -- A call of the sender.

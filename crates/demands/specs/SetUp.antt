@@ -1,12 +1,11 @@
 -- Demand 2, set-up: from two closed mirrored records the four telegrams, each received in time, end with the two connected, at both levels and whatever the
 -- random numbers, and whatever the two nodes do for other connections meanwhile; nothing refuses them where all that is given fits; and what is then sent comes up.
 -- Assumes nothing.
-use Rattle.std.specs.Prelude.{◌≡◌, true, List, [], ◌∷◌, ℕ, ◌+◌, ◌^◌, ◌≤◌, ◌<◌, length}
+use Rattle.std.specs.Prelude.{◌≡◌, true, List, [], ◌∷◌, ℕ, ◌+◌, ◌^◌, ◌≤◌, ◌<◌, length, Option}
 use Rattle.checkword.specs.Bytes.{Bytes}
 use Rattle.telegram.specs.Writers.{connect_allowed}
 use Rattle.link.specs.Steps.{declared_by}
 use Rattle.link.specs.declared.Record.{Record}
-use Rattle.link.specs.declared.IdleTime.{IdleTime}
 use Rattle.link.specs.declared.Event.TheVariants.{Opened}
 use Rattle.node.specs.declared.Head.{Head}
 use Rattle.node.specs.Accepted.{record_at, accepted}
@@ -21,7 +20,7 @@ pub record Given : Type 0 where
   pub time : ℕ
   pub out : List ℕ
   pub random : ℕ
-  pub idle_time : IdleTime
+  pub idle_time : Option ℕ
   pub net : List ℕ
 
 -- The opener, its record at place i; the responder, its record at place j; and what each of the five calls is given.

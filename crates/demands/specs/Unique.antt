@@ -31,7 +31,6 @@ use Rattle.link.specs.Steps.{open_of, open_out, close_of, close_out, send_of, se
 use Rattle.link.specs.Plain.{idle_time_by, happened}
 use Rattle.link.specs.Plain as link
 use Rattle.link.specs.declared.Record.{Record}
-use Rattle.link.specs.declared.IdleTime.{IdleTime}
 use Rattle.link.specs.declared.Event.{Event}
 use Rattle.link.specs.declared.Step.{Step}
 use Rattle.link.specs.declared.Happened.{Happened}
@@ -188,7 +187,7 @@ pub record Link : Type 0 where
   pub record_in_range : («record» : Record) (own : ℕ) → Unique (λ (b : Bool). b ≡ record_in_range «record» own)
   pub fresh : (partner partner_sap local_sap level : ℕ) → Unique (λ (r : Record). r ≡ fresh_of partner partner_sap local_sap level)
   -- src/steps.rt: the five steps
-  pub «open» : («record» : Record) (own time random : ℕ) (idle : IdleTime) (net out : List ℕ)
+  pub «open» : («record» : Record) (own time random : ℕ) (idle : Option ℕ) (net out : List ℕ)
       → Unique₂ (λ (s : Step) (out' : List ℕ).
       (s ≡ open_of «record» own time random idle net out)
       × (out' ≡ open_out «record» own random idle net out))
@@ -200,7 +199,7 @@ pub record Link : Type 0 where
       → Unique₂ (λ (s : Step) (out' : List ℕ).
       (s ≡ send_of «record» own time command net out)
       × (out' ≡ send_out «record» own command net out))
-  pub received : («record» : Record) (own time random : ℕ) (idle : IdleTime) (telegram net out : List ℕ)
+  pub received : («record» : Record) (own time random : ℕ) (idle : Option ℕ) (telegram net out : List ℕ)
       → Unique₂ (λ (s : Step) (out' : List ℕ).
       (s ≡ received_of «record» own time random idle telegram net out)
       × (out' ≡ received_out «record» own time random idle telegram net out))
@@ -209,7 +208,7 @@ pub record Link : Type 0 where
       (s ≡ tick_of «record» own time out)
       × (out' ≡ tick_out «record» own time out))
   -- src/plain.rt: what C says and is told in plain numbers
-  pub idle_time_by : (named time : ℕ) → Unique (λ (i : IdleTime). i ≡ idle_time_by named time)
+  pub idle_time_by : (named time : ℕ) → Unique (λ (i : Option ℕ). i ≡ idle_time_by named time)
   pub happened_as : (event : Event) → Unique (λ (h : Happened). h ≡ happened event)
 
 -- The public functions of `link_c`.
@@ -283,7 +282,7 @@ pub record Node : Type 0 where
   pub first_match : (table : List Record) (route : Route) → Unique (λ (n : ℕ). n ≡ first_match route table)
   pub route_by : (sender destination_sap source_sap : ℕ) → Unique (λ (w : Route). w ≡ route_by sender destination_sap source_sap)
   -- src/calls.rt: the five calls
-  pub «open» : (table : List Record) (head : Head) (time place random : ℕ) (idle : IdleTime) (net out : List ℕ)
+  pub «open» : (table : List Record) (head : Head) (time place random : ℕ) (idle : Option ℕ) (net out : List ℕ)
       → Unique₃ (λ (o : Outcome) (table' : List Record) (out' : List ℕ).
       (o ≡ (called (Open place random idle net) head table time out).outcome)
       × ((table' ≡ (called (Open place random idle net) head table time out).table)
@@ -298,7 +297,7 @@ pub record Node : Type 0 where
       (o ≡ (called (Send place command net) head table time out).outcome)
       × ((table' ≡ (called (Send place command net) head table time out).table)
       × (out' ≡ (called (Send place command net) head table time out).out)))
-  pub received : (table : List Record) (head : Head) (time : ℕ) (route : Route) (random : ℕ) (idle : IdleTime) (telegram net out : List ℕ)
+  pub received : (table : List Record) (head : Head) (time : ℕ) (route : Route) (random : ℕ) (idle : Option ℕ) (telegram net out : List ℕ)
       → Unique₃ (λ (o : Outcome) (table' : List Record) (out' : List ℕ).
       (o ≡ (called (Received route random idle telegram net) head table time out).outcome)
       × ((table' ≡ (called (Received route random idle telegram net) head table time out).table)

@@ -19,7 +19,6 @@ use Rattle.telegram.specs.declared.Clause.TheVariants as clause
 use Rattle.telegram.specs.declared.Check.TheVariants.{Passes, Failed}
 use Rattle.link.specs.Records.{record_in_range}
 use Rattle.link.specs.Steps.{open_of}
-use Rattle.link.specs.Facts.{naming}
 use Rattle.link.specs.declared.Record.{Record}
 use Rattle.node.specs.declared.Head.{Head}
 use Rattle.node.specs.declared.Route.{Route}
@@ -57,14 +56,14 @@ pub record IdleTimeAnswers (time n : ℕ) : Type 0 where
   pub by_confirm : (e : End) (random : ℕ) (net d : List ℕ) → in_range e ≡ true → longest ≤ length d → length net ≤ most Request e.level
       → (answer_of (writes_confirm e random time net d)).answer ≡ n
   pub by_link : (r : Record) (own clock random : ℕ) (net d : List ℕ) → record_in_range r own ≡ true → longest ≤ length d → r.phase ≡ 1
-      → length net ≤ most Request r.level → (open_of r own clock random (naming time) net d).answer.number ≡ n
+      → length net ≤ most Request r.level → (open_of r own clock random (Some time) net d).answer.number ≡ n
   pub by_open : (h : Head) (t : List Record) (clock place random : ℕ) (net d : List ℕ) → accepted h t ≡ true → longest ≤ length d → h.latest ≤ clock
       → place < length t → (record_at t place).phase ≡ 1 → length net ≤ most Request (record_at t place).level
-      → (called (Open place random (naming time) net) h t clock d).outcome.answer.number ≡ n
+      → (called (Open place random (Some time) net) h t clock d).outcome.answer.number ≡ n
   pub by_received : (h : Head) (t : List Record) (clock : ℕ) (w : Route) (random : ℕ) (u net d : List ℕ) → accepted h t ≡ true → longest ≤ length d
       → h.latest ≤ clock → on_bus (length u) ≡ true → first_match w t < length t → ((record_at t (first_match w t)).phase ≡ 6 → ⊥)
       → length net ≤ most Request (record_at t (first_match w t)).level
-      → (called (Received w random (naming time) u net) h t clock d).outcome.answer.number ≡ n
+      → (called (Received w random (Some time) u net) h t clock d).outcome.answer.number ≡ n
 
 -- An idle telegram has so many bytes at a level, and the writer says so.
 pub record IdleTelegram (level count : ℕ) : Type 0 where

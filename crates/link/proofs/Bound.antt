@@ -1,6 +1,7 @@
 -- The table binds the steps: a verdict's step does one thing and leaves one phase, whatever row asked for it, and cell by cell these are the cell's. A refusal
 -- for the phase leaves all as it was, which is what the cell says there.
 -- Assumes nothing.
+use Rattle.std.specs.Prelude.{Option}
 use Rattle.std.proofs.Common.{◌≡◌, ℕ, zero, suc, ◌≤◌, Bool, true, false, eqb, List, [], length, refl, ◌∙◌, arith, eq-eqb, eqb-true}
 use Rattle.ground.specs.Choice.{pick}
 use Rattle.telegram.specs.Commands.{kind_of_command}
@@ -22,7 +23,6 @@ use Rattle.link.specs.Judged.{row_of, ruled, narrowed, back, good_version, good_
 use Rattle.link.specs.Steps.{neb, first_refusal, declared_by, taken, sent, quietly, refused_step, writing_step, act_of, act_out, unless_step, unless_out, open_refusal, open_of, open_out, close_refusal, close_of, close_out, send_refusal, send_of, send_out, received_refusal, received_of, received_out, tick_refusal, tick_of, tick_out}
 use Rattle.link.specs.Bound.{leads, number_of, Front, Stands, Doing, doing, hands_up, Done, Obeys, Keeps, instead, Timer, interval, watch, wait, row_of_timer, runs, TableBound}
 use Rattle.link.specs.declared.Record.{Record}
-use Rattle.link.specs.declared.IdleTime.{IdleTime}
 use Rattle.link.specs.declared.Step.{Step}
 use Rattle.link.specs.declared.Event.{Event}
 use Rattle.link.specs.declared.Verdict.{Verdict}
@@ -283,7 +283,7 @@ keeps c r own time m x room carried suited allowed s d o num left says last =
     keeps_by (record_in_range r own) room carried (neb r.phase 6) suited allowed (c r.phase) r own time m x s d o num left
     (λ a l. says (living r own a l).0 (living r own a l).1) (λ a l. finally c r.phase (same r.phase 6 l) last)
 
-received_keeps : (c : ℕ → Cell) (v : Verdict) (r : Record) (own time random : ℕ) (i : IdleTime) (t net d : List ℕ) → judged r own time t ≡ v
+received_keeps : (c : ℕ → Cell) (v : Verdict) (r : Record) (own time random : ℕ) (i : Option ℕ) (t net d : List ℕ) → judged r own time t ≡ v
     → (1 ≤ r.phase → r.phase ≤ 5 → ByVerdict v (c r.phase) r.phase t) → Says 6 (doing f00) (c 6) 6
     → Keeps (c r.phase) r own time d (received_of r own time random i t net d) (received_out r own time random i t net d)
 unfolding received_of received_out received_refusal pick

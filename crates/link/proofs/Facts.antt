@@ -1,5 +1,6 @@
 -- The facts of the steps, as specs/Facts.antt states them: by the cases that a step can take.
 -- Assumes nothing.
+use Rattle.std.specs.Prelude.{None}
 use Rattle.std.proofs.Common.{◌≡◌, ℕ, zero, suc, ◌+◌, Bool, true, false, eqb, ltb, List, [], ◌++◌, length, drop, sym, refl, ap, subst, arith, le-ltb, lt-ltb, eq-eqb, ne_eqb}
 use Rattle.ground.specs.Choice.{pick}
 use Rattle.telegram.specs.Commands.{kind_of}
@@ -16,7 +17,7 @@ use Rattle.link.specs.Times.{gap, wait_over, watch_over}
 use Rattle.link.specs.Table.{cell, reading, otherwise, Connect-snd, Data-snd, Timeout-snd, Timeout-rcv, Timeout-brk, Data-rcv, Idle-rcv, Incorrect-rcv-1st, Incorrect-rcv-2nd, ConReq-rcv, ConAck-rcv, AuthReq-rcv, AuthAck-rcv, Discon-snd, FDiscon-snd, Discon-rcv}
 use Rattle.link.specs.Judged.{ruled, judged, passed, ticked, run_out_verdict}
 use Rattle.link.specs.Steps.{next, neb, first_refusal, declared_by, taken, sent, quietly, refused_step, writing_step, act_of, act_out, unless_step, unless_out, open_refusal, open_of, open_out, close_refusal, close_of, send_refusal, send_of, received_refusal, received_of, received_out, tick_refusal, tick_of}
-use Rattle.link.specs.Facts.{Same, SameConnection, FinalStays, DisconnectBeforeClosing, ClosedAtRest, none_named, Carries1000, Unnamed, Waits, Watch, AsPrinted, ByTheTable}
+use Rattle.link.specs.Facts.{Same, SameConnection, FinalStays, DisconnectBeforeClosing, ClosedAtRest, Carries1000, Unnamed, Waits, Watch, AsPrinted, ByTheTable}
 use Rattle.link.specs.Plain.{idle_time_by}
 use Rattle.link.specs.declared.Record.{Record}
 use Rattle.link.specs.declared.Step.{Step}
@@ -144,18 +145,18 @@ pub unnamed : Unnamed
 unfolding idle_time_by open_of open_out received_of received_out writes_request writes_confirm connect_allowed good_idle declared_by pick
 unnamed =
     record {
-      declares = λ beside. refl;
+      declares = refl;
       named = λ time. refl;
       flag_0 = λ beside. refl;
       flag_else = λ flag time some. rw (ne_eqb flag 0 some) refl;
-      never_refused = λ beside count l. refl;
-      written = λ r own time random beside net d done.
-          let n = open_refusal r own (none_named beside) net d in
+      never_refused = λ count l. refl;
+      written = λ r own time random net d done.
+          let n = open_refusal r own None net d in
           let m = refusal (end_of r own) (length d) (connect_allowed 1000 (length net) (end_of r own).level) in
           let x = request (end_of r own) random 1000 net in
           subst Carries1000 (sym (out_is n m x d r (become r 2 (next random) 0 1000 0 time 0) 1 event.Nothing done)) (request_1000 (end_of r own) random net (drop (length x) d));
-      confirmed = λ r own time random beside t net d asks done.
-          let n = received_refusal r own (none_named beside) t net d in
+      confirmed = λ r own time random t net d asks done.
+          let n = received_refusal r own None t net d in
           let m = refusal (end_of r own) (length d) (connect_allowed 1000 (length net) (end_of r own).level) in
           let x = confirm (end_of r own) random 1000 net in
           subst (λ (v : Verdict). (unless_step n r (act_of v r own time random 1000 t net d)).answer.number ≡ 0 → Carries1000 (unless_out n d (act_out v r own random 1000 t net d)))

@@ -2,7 +2,7 @@
 -- to 5.5.1.5). Said of any table: that none with another next state binds the steps is shown in crates/wrong. proofs/Bound.antt proves the statement under the same name in small
 -- letters.
 -- Assumes nothing.
-use Rattle.std.specs.Prelude.{◌≡◌, ℕ, Bool, true, false, List, [], ◌∷◌, ◌++◌, length, drop, ◌==◌, ◌≢◌, nat_le}
+use Rattle.std.specs.Prelude.{◌≡◌, ℕ, Bool, true, false, List, [], ◌∷◌, ◌++◌, length, drop, ◌==◌, ◌≢◌, nat_le, Option}
 use Rattle.ground.specs.Choice.{pick, all}
 use Rattle.telegram.specs.Commands.{kind_of_command}
 use Rattle.telegram.specs.Fields.{type_of}
@@ -20,7 +20,6 @@ use Rattle.link.specs.Judged.{row_of, good_version, good_number, expected_now, r
 use Rattle.link.specs.Steps.{open_of, open_out, close_of, close_out, send_of, send_out, received_of, received_out, tick_of, tick_out}
 use Rattle.link.specs.Facts.{AsPrinted}
 use Rattle.link.specs.declared.Record.{Record}
-use Rattle.link.specs.declared.IdleTime.{IdleTime}
 use Rattle.link.specs.declared.Step.{Step}
 use Rattle.link.specs.declared.Event.{Event}
 use Rattle.link.specs.declared.Event.TheVariants as event
@@ -155,7 +154,7 @@ runs wait p = all (nat_le 2 p ∷ nat_le p 4 ∷ [])
 
 -- The steps do what this table says, event by event (5.5.1.3) and in every phase.
 pub record TableBinds (table : Row → ℕ → Cell) : Type 0 where
-  pub connect_snd : (r : Record) (own time random : ℕ) (i : IdleTime) (net d : List ℕ)
+  pub connect_snd : (r : Record) (own time random : ℕ) (i : Option ℕ) (net d : List ℕ)
       → Keeps (table Connect-snd r.phase) r own time d (open_of r own time random i net d) (open_out r own random i net d)
   pub data_snd : (r : Record) (own time low : ℕ) (net d : List ℕ)
       → Keeps (table Data-snd r.phase) r own time d (send_of r own time low net d) (send_out r own low net d)
@@ -165,21 +164,21 @@ pub record TableBinds (table : Row → ℕ → Cell) : Type 0 where
   pub fdiscon_snd : (r : Record) (own time reason : ℕ) (text d : List ℕ)
       → Keeps (table FDiscon-snd r.phase) r own time d (close_of r own 0 reason text d) (close_out r own 0 reason text d)
   -- a telegram that comes in time and passes the check: its kind's row
-  pub passing : (r : Record) (own time random : ℕ) (i : IdleTime) (t net d : List ℕ) → run_out r time ≡ false
+  pub passing : (r : Record) (own time random : ℕ) (i : Option ℕ) (t net d : List ℕ) → run_out r time ≡ false
       → check_of (end_of r own) (expected_now r) t ≡ Passes
       → Keeps (instead (kind_of_command (command_of t)) r.phase r t (table (row_of (kind_of_command (command_of t))) r.phase)) r own time d
       (received_of r own time random i t net d) (received_out r own time random i t net d)
   -- one that comes in time and fails it, the first and any other
-  pub failing : (r : Record) (own time random : ℕ) (i : IdleTime) (t net d : List ℕ) (c : Clause) → run_out r time ≡ false
+  pub failing : (r : Record) (own time random : ℕ) (i : Option ℕ) (t net d : List ℕ) (c : Clause) → run_out r time ≡ false
       → check_of (end_of r own) (expected_now r) t ≡ Failed c
       → Keeps (table Incorrect-rcv-1st r.phase) r own time d (received_of r own time random i t net d) (received_out r own time random i t net d)
       × Keeps (table Incorrect-rcv-2nd r.phase) r own time d (received_of r own time random i t net d) (received_out r own time random i t net d)
   -- a wait that ran out, seen by a telegram or a tick
-  pub waited : (r : Record) (own time random : ℕ) (i : IdleTime) (t net d : List ℕ) → (r.phase ≢ 5) → run_out r time ≡ true
+  pub waited : (r : Record) (own time random : ℕ) (i : Option ℕ) (t net d : List ℕ) → (r.phase ≢ 5) → run_out r time ≡ true
       → Keeps (table Timeout-brk r.phase) r own time d (received_of r own time random i t net d) (received_out r own time random i t net d)
       × Keeps (table Timeout-brk r.phase) r own time d (tick_of r own time d) (tick_out r own time d)
   -- the watch of an open connection that ran out
-  pub silent : (r : Record) (own time random : ℕ) (i : IdleTime) (t net d : List ℕ) → r.phase ≡ 5 → run_out r time ≡ true
+  pub silent : (r : Record) (own time random : ℕ) (i : Option ℕ) (t net d : List ℕ) → r.phase ≡ 5 → run_out r time ≡ true
       → Keeps (table Timeout-rcv r.phase) r own time d (received_of r own time random i t net d) (received_out r own time random i t net d)
       × Keeps (table Timeout-rcv r.phase) r own time d (tick_of r own time d) (tick_out r own time d)
   -- an idle telegram that is due

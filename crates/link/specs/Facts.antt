@@ -1,6 +1,6 @@
 -- What is shown of the steps. proofs/Facts.antt proves each statement under the same name in snake case.
 -- Assumes nothing.
-use Rattle.std.specs.Prelude.{◌≡◌, ℕ, ◌+◌, ◌≤◌, Bool, true, false, List, [], ◌∷◌, ◌≢◌, nat_le, slice_index_or}
+use Rattle.std.specs.Prelude.{◌≡◌, ℕ, ◌+◌, ◌≤◌, Bool, true, false, List, [], ◌∷◌, ◌≢◌, nat_le, slice_index_or, Option, Some, None}
 use Rattle.ground.specs.Choice.{pick}
 use Rattle.telegram.specs.Commands.{kind_of_command}
 use Rattle.telegram.specs.Layout.{most}
@@ -20,7 +20,6 @@ use Rattle.link.specs.declared.Verdict.TheVariants.{Confirm, Close}
 use Rattle.link.specs.Steps.{declared_by, act_out, open_refusal, open_of, open_out, close_refusal, close_of, send_refusal, send_of, received_refusal, received_of, received_out, tick_refusal, tick_of}
 use Rattle.link.specs.Plain.{idle_time_by}
 use Rattle.link.specs.declared.Record.{Record}
-use Rattle.link.specs.declared.IdleTime.{IdleTime}
 
 -- The same connection: partner address, SAPs and level.
 pub record Same (r q : Record) : Type 0 where
@@ -31,37 +30,37 @@ pub record Same (r q : Record) : Type 0 where
 
 -- No step changes partner address, SAPs or level.
 pub record SameConnection : Type 0 where
-  pub by_open : (r : Record) (own time random : ℕ) (i : IdleTime) (net d : List ℕ) → Same r (open_of r own time random i net d).«record»
+  pub by_open : (r : Record) (own time random : ℕ) (i : Option ℕ) (net d : List ℕ) → Same r (open_of r own time random i net d).«record»
   pub by_close : (r : Record) (own type reason : ℕ) (text d : List ℕ) → Same r (close_of r own type reason text d).«record»
   pub by_send : (r : Record) (own time low : ℕ) (net d : List ℕ) → Same r (send_of r own time low net d).«record»
-  pub by_received : (r : Record) (own time random : ℕ) (i : IdleTime) (t net d : List ℕ) → Same r (received_of r own time random i t net d).«record»
+  pub by_received : (r : Record) (own time random : ℕ) (i : Option ℕ) (t net d : List ℕ) → Same r (received_of r own time random i t net d).«record»
   pub by_tick : (r : Record) (own time : ℕ) (d : List ℕ) → Same r (tick_of r own time d).«record»
 
 -- A finally closed record changes in no step.
 pub record FinalStays : Type 0 where
-  pub by_open : (r : Record) (own time random : ℕ) (i : IdleTime) (net d : List ℕ) → r.phase ≡ 6 → (open_of r own time random i net d).«record» ≡ r
+  pub by_open : (r : Record) (own time random : ℕ) (i : Option ℕ) (net d : List ℕ) → r.phase ≡ 6 → (open_of r own time random i net d).«record» ≡ r
   pub by_close : (r : Record) (own type reason : ℕ) (text d : List ℕ) → r.phase ≡ 6 → (close_of r own type reason text d).«record» ≡ r
   pub by_send : (r : Record) (own time low : ℕ) (net d : List ℕ) → r.phase ≡ 6 → (send_of r own time low net d).«record» ≡ r
-  pub by_received : (r : Record) (own time random : ℕ) (i : IdleTime) (t net d : List ℕ) → r.phase ≡ 6 → (received_of r own time random i t net d).«record» ≡ r
+  pub by_received : (r : Record) (own time random : ℕ) (i : Option ℕ) (t net d : List ℕ) → r.phase ≡ 6 → (received_of r own time random i t net d).«record» ≡ r
   pub by_tick : (r : Record) (own time : ℕ) (d : List ℕ) → r.phase ≡ 6 → (tick_of r own time d).«record» ≡ r
 
 -- A record that the rules accept stays one that the rules accept.
 pub record StaysAccepted : Type 0 where
-  pub by_open : (r : Record) (own time random : ℕ) (i : IdleTime) (net d : List ℕ) → record_in_range r own ≡ true
+  pub by_open : (r : Record) (own time random : ℕ) (i : Option ℕ) (net d : List ℕ) → record_in_range r own ≡ true
       → record_in_range (open_of r own time random i net d).«record» own ≡ true
   pub by_close : (r : Record) (own type reason : ℕ) (text d : List ℕ) → record_in_range r own ≡ true
       → record_in_range (close_of r own type reason text d).«record» own ≡ true
   pub by_send : (r : Record) (own time low : ℕ) (net d : List ℕ) → record_in_range r own ≡ true → record_in_range (send_of r own time low net d).«record» own ≡ true
-  pub by_received : (r : Record) (own time random : ℕ) (i : IdleTime) (t net d : List ℕ) → record_in_range r own ≡ true
+  pub by_received : (r : Record) (own time random : ℕ) (i : Option ℕ) (t net d : List ℕ) → record_in_range r own ≡ true
       → record_in_range (received_of r own time random i t net d).«record» own ≡ true
   pub by_tick : (r : Record) (own time : ℕ) (d : List ℕ) → record_in_range r own ≡ true → record_in_range (tick_of r own time d).«record» own ≡ true
 
 -- A step answers its first refusal, and where there is none it is done: what the step lets through, no writer below it refuses.
 pub record Answers : Type 0 where
-  pub by_open : (r : Record) (own time random : ℕ) (i : IdleTime) (net d : List ℕ) → (open_of r own time random i net d).answer.number ≡ open_refusal r own i net d
+  pub by_open : (r : Record) (own time random : ℕ) (i : Option ℕ) (net d : List ℕ) → (open_of r own time random i net d).answer.number ≡ open_refusal r own i net d
   pub by_close : (r : Record) (own type reason : ℕ) (text d : List ℕ) → (close_of r own type reason text d).answer.number ≡ close_refusal r own type reason text d
   pub by_send : (r : Record) (own time low : ℕ) (net d : List ℕ) → (send_of r own time low net d).answer.number ≡ send_refusal r own low net d
-  pub by_received : (r : Record) (own time random : ℕ) (i : IdleTime) (t net d : List ℕ)
+  pub by_received : (r : Record) (own time random : ℕ) (i : Option ℕ) (t net d : List ℕ)
       → (received_of r own time random i t net d).answer.number ≡ received_refusal r own i t net d
   pub by_tick : (r : Record) (own time : ℕ) (d : List ℕ) → (tick_of r own time d).answer.number ≡ tick_refusal r own d
 
@@ -72,10 +71,10 @@ pub record Timers (time : ℕ) (r : Record) : Type 0 where
 
 -- No step sets a timer later than its own time.
 pub record TimersKept : Type 0 where
-  pub by_open : (r : Record) (own time random : ℕ) (i : IdleTime) (net d : List ℕ) → Timers time r → Timers time (open_of r own time random i net d).«record»
+  pub by_open : (r : Record) (own time random : ℕ) (i : Option ℕ) (net d : List ℕ) → Timers time r → Timers time (open_of r own time random i net d).«record»
   pub by_close : (r : Record) (own time type reason : ℕ) (text d : List ℕ) → Timers time r → Timers time (close_of r own type reason text d).«record»
   pub by_send : (r : Record) (own time low : ℕ) (net d : List ℕ) → Timers time r → Timers time (send_of r own time low net d).«record»
-  pub by_received : (r : Record) (own time random : ℕ) (i : IdleTime) (t net d : List ℕ) → Timers time r
+  pub by_received : (r : Record) (own time random : ℕ) (i : Option ℕ) (t net d : List ℕ) → Timers time r
       → Timers time (received_of r own time random i t net d).«record»
   pub by_tick : (r : Record) (own time : ℕ) (d : List ℕ) → Timers time r → Timers time (tick_of r own time d).«record»
 
@@ -91,32 +90,25 @@ DisconnectBeforeClosing =
 abbrev pub ClosedAtRest : Type 0
 ClosedAtRest = (r : Record) (last : Bool) → at_rest (closed_by last r) ≡ true
 
--- A call names this idle time; or it names none, whatever number stands beside the flag.
-abbrev pub naming : ℕ → IdleTime
-naming time = record { named = true; time = time }
-
-abbrev pub none_named : ℕ → IdleTime
-none_named beside = record { named = false; time = beside }
-
 -- The connect telegram at the front of a buffer carries 1,000: bytes 7 and 8 (5.2.1.3, 5.2.2.2) are E8h 03h, lowest first (5.1.1.6), and are read back so.
 pub record Carries1000 (out : List ℕ) : Type 0 where
   pub byte_7 : slice_index_or out 6 0 ≡ 0xE8
   pub byte_8 : slice_index_or out 7 0 ≡ 0x03
   pub read_back : idle_time_of out ≡ 1000
 
--- An opening or a confirm that names no idle time declares 1,000 (change request e); a time that is named is declared, 0 too. Of C the flag 0 names none, and any
--- other names the number beside it. None named is never the cause of answer 5. And 1,000 goes out: in the request of every opening that is done, and in the confirm
--- of every request that is confirmed.
+-- An opening or a confirm that names no idle time declares 1,000 (change request e); a time that is named is declared, 0 too. Of C the flag 0 names none,
+-- whatever number stands beside it, and any other flag names that number. None named is never the cause of answer 5. And 1,000 goes out: in the request of every
+-- opening that is done, and in the confirm of every request that is confirmed.
 pub record Unnamed : Type 0 where
-  pub declares : (beside : ℕ) → declared_by (none_named beside) ≡ 1000
-  pub named : (time : ℕ) → declared_by (naming time) ≡ time
-  pub flag_0 : (beside : ℕ) → idle_time_by 0 beside ≡ none_named beside
-  pub flag_else : (flag time : ℕ) → (flag ≢ 0) → idle_time_by flag time ≡ naming time
-  pub never_refused : (beside count l : ℕ) → connect_allowed (declared_by (none_named beside)) count l ≡ nat_le count (most Request l)
-  pub written : (r : Record) (own time random beside : ℕ) (net d : List ℕ) → (open_of r own time random (none_named beside) net d).answer.number ≡ 0
-      → Carries1000 (open_out r own random (none_named beside) net d)
-  pub confirmed : (r : Record) (own time random beside : ℕ) (t net d : List ℕ) → judged r own time t ≡ Confirm
-      → (received_of r own time random (none_named beside) t net d).answer.number ≡ 0 → Carries1000 (received_out r own time random (none_named beside) t net d)
+  pub declares : declared_by None ≡ 1000
+  pub named : (time : ℕ) → declared_by (Some time) ≡ time
+  pub flag_0 : (beside : ℕ) → idle_time_by 0 beside ≡ None
+  pub flag_else : (flag time : ℕ) → (flag ≢ 0) → idle_time_by flag time ≡ Some time
+  pub never_refused : (count l : ℕ) → connect_allowed (declared_by None) count l ≡ nat_le count (most Request l)
+  pub written : (r : Record) (own time random : ℕ) (net d : List ℕ) → (open_of r own time random None net d).answer.number ≡ 0
+      → Carries1000 (open_out r own random None net d)
+  pub confirmed : (r : Record) (own time random : ℕ) (t net d : List ℕ) → judged r own time t ≡ Confirm
+      → (received_of r own time random None t net d).answer.number ≡ 0 → Carries1000 (received_out r own time random None t net d)
 
 -- Waits: 5,000 ms after our last sending is in time, 5,001 is not.
 pub record Waits : Type 0 where

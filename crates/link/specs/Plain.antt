@@ -1,17 +1,16 @@
 -- A step as plain numbers, for C: the scope's number and values for each case of the event.
 -- Assumes nothing.
-use Rattle.std.specs.Prelude.{ℕ, true, false, ◌==◌}
+use Rattle.std.specs.Prelude.{ℕ, ◌==◌, Option, Some, None}
 use Rattle.ground.specs.Choice.{pick}
-use Rattle.link.specs.declared.IdleTime.{IdleTime}
 use Rattle.link.specs.declared.Event.{Event}
 use Rattle.link.specs.declared.Event.TheVariants.{Nothing, Opened, Data, Closed}
 use Rattle.link.specs.declared.Step.{Step}
 use Rattle.link.specs.declared.Happened.{Happened}
 use Rattle.link.specs.declared.Stepped.{Stepped}
 
--- An idle time is named where the flag is not 0.
-unfoldable pub idle_time_by : ℕ → ℕ → IdleTime
-idle_time_by named time = record { named = pick (named == 0) false true; time = time }
+-- An idle time is named where the flag is not 0, and else none is, whatever number stands beside the flag.
+unfoldable pub idle_time_by : ℕ → ℕ → Option ℕ
+idle_time_by named time = pick (named == 0) None (Some time)
 
 -- 0 nothing, 1 opened, 2 data with command, start and count, 3 closed with its reason, last 1 where it is closed finally. Unused parts are 0.
 abbrev pub happened : Event → Happened

@@ -1,6 +1,6 @@
 -- The five steps over one record: the record after it, the answer, the event, and the buffer. A refused step leaves all as it was.
 -- Assumes nothing.
-use Rattle.std.specs.Prelude.{ℕ, ◌+◌, ◌%◌, ◌^◌, Bool, true, false, List, [], length, ◌==◌, nat_le}
+use Rattle.std.specs.Prelude.{ℕ, ◌+◌, ◌%◌, ◌^◌, Bool, true, false, List, [], length, ◌==◌, nat_le, Option, unwrap_or}
 use Rattle.ground.specs.Choice.{pick}
 use Rattle.telegram.specs.Layout.{longest, on_bus}
 use Rattle.telegram.specs.Fields.{random_of, idle_time_of, type_of, reason_of, low_of}
@@ -10,7 +10,6 @@ use Rattle.telegram.specs.declared.Written.{Written}
 use Rattle.link.specs.Records.{end_of, record_in_range, become, closed_by}
 use Rattle.link.specs.Judged.{back, judged, ticked}
 use Rattle.link.specs.declared.Record.{Record}
-use Rattle.link.specs.declared.IdleTime.{IdleTime}
 use Rattle.link.specs.declared.Step.{Step}
 use Rattle.link.specs.declared.Event.{Event}
 use Rattle.link.specs.declared.Event.TheVariants as event
@@ -24,8 +23,8 @@ first_refusal ranged room carried live suited allowed =
     pick ranged (pick room (pick carried (pick live (pick suited (pick allowed 0 5) 3) 8) 6) 4) 1
 
 -- The idle time declared: the one named, or 1,000.
-unfoldable pub declared_by : IdleTime → ℕ
-declared_by i = pick i.named i.time 1000
+unfoldable pub declared_by : Option ℕ → ℕ
+declared_by i = unwrap_or i 1000
 
 -- The number after x, modulo 2^32.
 abbrev pub next : ℕ → ℕ
@@ -102,17 +101,17 @@ unless_out n d e = pick (n == 0) e d
 
 -- Open (f_01): a request under a random number.
 
-unfoldable pub open_refusal : Record → ℕ → IdleTime → List ℕ → List ℕ → ℕ
+unfoldable pub open_refusal : Record → ℕ → Option ℕ → List ℕ → List ℕ → ℕ
 open_refusal r own i net d =
     first_refusal (record_in_range r own) (nat_le longest (length d)) true (neb r.phase 6) (r.phase == 1)
     (connect_allowed (declared_by i) (length net) r.level)
 
-unfoldable pub open_of : Record → ℕ → ℕ → ℕ → IdleTime → List ℕ → List ℕ → Step
+unfoldable pub open_of : Record → ℕ → ℕ → ℕ → Option ℕ → List ℕ → List ℕ → Step
 open_of r own time random i net d =
     unless_step (open_refusal r own i net d) r
     (writing_step (answer_of (writes_request (end_of r own) random (declared_by i) net d)) r (become r 2 (next random) 0 (declared_by i) 0 time 0) 1 event.Nothing)
 
-unfoldable pub open_out : Record → ℕ → ℕ → IdleTime → List ℕ → List ℕ → List ℕ
+unfoldable pub open_out : Record → ℕ → ℕ → Option ℕ → List ℕ → List ℕ → List ℕ
 open_out r own random i net d = unless_out (open_refusal r own i net d) d (left_by (writes_request (end_of r own) random (declared_by i) net d) d)
 
 -- Close (f_07, f_08): a disconnect with the layer above's reason and text.
@@ -146,15 +145,15 @@ send_out r own low net d = unless_out (send_refusal r own low net d) d (left_by 
 
 -- Received: a telegram t, with what a possible confirm would carry.
 
-unfoldable pub received_refusal : Record → ℕ → IdleTime → List ℕ → List ℕ → List ℕ → ℕ
+unfoldable pub received_refusal : Record → ℕ → Option ℕ → List ℕ → List ℕ → List ℕ → ℕ
 received_refusal r own i t net d =
     first_refusal (record_in_range r own) (nat_le longest (length d)) (on_bus (length t)) (neb r.phase 6) true (connect_allowed (declared_by i) (length net) r.level)
 
-unfoldable pub received_of : Record → ℕ → ℕ → ℕ → IdleTime → List ℕ → List ℕ → List ℕ → Step
+unfoldable pub received_of : Record → ℕ → ℕ → ℕ → Option ℕ → List ℕ → List ℕ → List ℕ → Step
 received_of r own time random i t net d =
     unless_step (received_refusal r own i t net d) r (act_of (judged r own time t) r own time random (declared_by i) t net d)
 
-unfoldable pub received_out : Record → ℕ → ℕ → ℕ → IdleTime → List ℕ → List ℕ → List ℕ → List ℕ
+unfoldable pub received_out : Record → ℕ → ℕ → ℕ → Option ℕ → List ℕ → List ℕ → List ℕ → List ℕ
 received_out r own time random i t net d =
     unless_out (received_refusal r own i t net d) d (act_out (judged r own time t) r own random (declared_by i) t net d)
 

@@ -36,13 +36,6 @@ pub struct Record {
     pub taken_at: u64,
 }
 
-// An idle time that a caller names, or not.
-#[derive(Clone, Copy)]
-pub struct IdleTime {
-    pub named: bool,
-    pub time: u32,
-}
-
 // What happened, for the layer above.
 #[derive(Clone, Copy)]
 pub enum Event {

@@ -2,17 +2,14 @@
 ghost use Rattle.std.specs.Prelude.{◌≡◌};
 ghost use Rattle.link.specs.Plain.{idle_time_by, happened};
 
-use crate::{Event, Happened, IdleTime};
+use crate::{Event, Happened};
 
 // An idle time is named where the flag is not 0.
 #[tactic(auto, unfolding(crate::specs::Plain::idle_time_by, ground::specs::Choice::pick))]
-pub fn idle_time_by(named: u32, time: u32) -> IdleTime
+pub fn idle_time_by(named: u32, time: u32) -> Option<u32>
     ensures { result ≡ idle_time_by named time }
 {
-    if named == 0 {
-        return IdleTime { named: false, time };
-    }
-    IdleTime { named: true, time }
+    (named != 0).then_some(time)
 }
 
 #[tactic(auto, unfolding(ground::specs::Choice::pick))]

@@ -8,16 +8,16 @@ use crate::act::{DATA, DISCONNECT, REQUEST, act, act_on_tick, refused_step, writ
 use crate::judge::{judge, judge_tick};
 use crate::phases::{CLOSED, CONFIRM_AWAITED, FINALLY_CLOSED, OPEN};
 use crate::records::{after_sending, closed_by, end_of, record_in_range};
-use crate::{Event, IdleTime, Record, Step};
+use crate::{Event, Record, Step};
 
 // The idle time that an opening or a confirm declares when none is named.
 const UNNAMED: u32 = 1000;
 
-#[tactic(auto, using(ground::specs::Choice::tests), unfolding(crate::specs::Steps::declared_by))]
-fn declared_by(idle: IdleTime) -> u32
+#[tactic(auto, unfolding(crate::specs::Steps::declared_by))]
+fn declared_by(idle: Option<u32>) -> u32
     ensures { result ≡ declared_by idle }
 {
-    if idle.named { idle.time } else { UNNAMED }
+    idle.unwrap_or(UNNAMED)
 }
 
 #[tactic(auto, using(ground::specs::Choice::tests))]
@@ -85,7 +85,7 @@ pub fn open(
     own: u32,
     time: u64,
     random: u32,
-    idle: IdleTime,
+    idle: Option<u32>,
     net: &[u8],
     out: &mut [u8],
 ) -> Step
@@ -168,7 +168,7 @@ pub fn received(
     own: u32,
     time: u64,
     random: u32,
-    idle: IdleTime,
+    idle: Option<u32>,
     telegram: &[u8],
     net: &[u8],
     out: &mut [u8],

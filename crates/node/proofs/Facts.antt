@@ -10,6 +10,7 @@ use lib.ListN.{length, set, length-set}
 use lib.Seq.{get_or-set_other}
 use lib.Dec.{T, leb, eqb}
 use borrow.Author.Tests.{leb-true, le-leb, eqb-true, eqb-false, ne_eqb, eq-eqb}
+use Rattle.std.specs.Prelude.{Option}
 use Rattle.ground.specs.Choice.{pick, all, yes}
 use Rattle.telegram.specs.NetData.{net_part, net_data}
 use Rattle.telegram.specs.declared.Written.{Written}
@@ -25,7 +26,6 @@ use Rattle.link.proofs.Accepted as accepting
 use Rattle.link.proofs.Answers.{answers}
 use Rattle.link.proofs.Timers.{timers_kept}
 use Rattle.link.specs.declared.Record.{Record}
-use Rattle.link.specs.declared.IdleTime.{IdleTime}
 use Rattle.link.specs.declared.Step.{Step}
 use Rattle.link.specs.declared.Event.{Event}
 use Rattle.link.specs.declared.Event.TheVariants as event
@@ -359,7 +359,7 @@ module _ (t : List ℕ) where
   act_hands Disconnected r own time random declared net d = quiet_hands _ _ (λ x. absurd (omega arith))
   act_hands (Closes reason last) r own time random declared net d = writing_hands _ r _ 5 _ (λ x. absurd (omega arith))
 
-  received_hands : (r : Record) (own time random : ℕ) (i : IdleTime) (net d : List ℕ) → Hands (received_of r own time random i t net d).event
+  received_hands : (r : Record) (own time random : ℕ) (i : Option ℕ) (net d : List ℕ) → Hands (received_of r own time random i t net d).event
   unfolding received_of
   received_hands r own time random i net d =
       picked_hands (eqb (received_refusal r own i t net d) 0) _ _ (act_hands (judged r own time t) r own time random (declared_by i) net d) (refused_hands (received_refusal r own i t net d) r)

@@ -1,12 +1,11 @@
 -- The five calls: the outcome, the table and the buffer that each leaves, for all inputs.
 -- Assumes nothing.
-use Rattle.std.specs.Prelude.{Bool, true, List, ℕ, length, set, leb, ltb, eqb}
+use Rattle.std.specs.Prelude.{Bool, true, List, ℕ, length, set, leb, ltb, eqb, Option}
 use Rattle.ground.specs.Choice.{pick}
 use Rattle.telegram.specs.Layout.{longest, on_bus}
 use Rattle.telegram.specs.Writers.{connect_allowed, disconnect_allowed, data_allowed}
 use Rattle.link.specs.Steps.{neb, declared_by, open_of, open_out, close_of, close_out, send_of, send_out, received_of, received_out, tick_of, tick_out}
 use Rattle.link.specs.declared.Record.{Record}
-use Rattle.link.specs.declared.IdleTime.{IdleTime}
 use Rattle.link.specs.declared.Step.{Step}
 use Rattle.link.specs.declared.Event.TheVariants.{Nothing}
 use Rattle.node.specs.declared.Head.{Head}
@@ -20,13 +19,13 @@ use Rattle.node.specs.Refusals.{Asked, order, first}
 -- The calls, with what each is given beside table, head, time and buffer. A place is a record's number in the table.
 pub data Call : Type 0 where
   -- place, random number, idle time, net data
-  Open : ℕ → ℕ → IdleTime → List ℕ → Call
+  Open : ℕ → ℕ → Option ℕ → List ℕ → Call
   -- place, type, reason, text
   Close : ℕ → ℕ → ℕ → List ℕ → Call
   -- place, command's low six bits, net data
   Send : ℕ → ℕ → List ℕ → Call
   -- what it was sent under, random number and idle time for a possible confirm, telegram, net data for a possible confirm
-  Received : Route → ℕ → IdleTime → List ℕ → List ℕ → Call
+  Received : Route → ℕ → Option ℕ → List ℕ → List ℕ → Call
   -- place
   Tick : ℕ → Call
 

@@ -1,11 +1,10 @@
 -- What is shown of the calls, said of any link. proofs/Facts.antt proves each statement of ours, `called`, under the same name in snake case.
 -- Assumes nothing.
-use Rattle.std.specs.Prelude.{◌≡◌, true, List, ℕ, ◌<◌, length}
+use Rattle.std.specs.Prelude.{◌≡◌, true, List, ℕ, ◌<◌, length, Option}
 use Rattle.telegram.specs.NetData.{net_data}
 use Rattle.link.specs.Plain.{happened}
 use Rattle.link.specs.Facts.{Same}
 use Rattle.link.specs.declared.Record.{Record}
-use Rattle.link.specs.declared.IdleTime.{IdleTime}
 use Rattle.node.specs.declared.Head.{Head}
 use Rattle.node.specs.declared.Route.{Route}
 use Rattle.node.specs.Heads.{at}
@@ -57,6 +56,6 @@ pub record ByRoute : Type 0 where
 -- The net data that a data event (number 2) hands on are those of the telegram: after its fixed header and before its check word.
 abbrev pub NetDataHandedOn : Link → Type 0
 NetDataHandedOn link =
-    (w : Route) (random : ℕ) (i : IdleTime) (telegram net : List ℕ) (h : Head) (t : List Record) (time : ℕ) (d : List ℕ)
+    (w : Route) (random : ℕ) (i : Option ℕ) (telegram net : List ℕ) (h : Head) (t : List Record) (time : ℕ) (d : List ℕ)
     → (happened (link (Received w random i telegram net) h t time d).outcome.event).event ≡ 2
     → data_of (link (Received w random i telegram net) h t time d).outcome.event telegram ≡ net_data telegram

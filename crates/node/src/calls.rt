@@ -7,7 +7,7 @@ use crate::matching::first_match;
 use crate::outcomes::{refused, settle};
 use crate::refusals::refusal;
 use crate::{Head, Outcome, Route};
-use link::{IdleTime, Record};
+use link::Record;
 
 // Opens the connection at a place: a request goes out under the random number.
 #[tactic(auto, using(crate::proofs::Called::placed_before))]
@@ -17,7 +17,7 @@ pub fn open(
     time: u64,
     place: usize,
     random: u32,
-    idle: IdleTime,
+    idle: Option<u32>,
     net: &[u8],
     out: &mut [u8],
 ) -> Outcome
@@ -85,7 +85,7 @@ pub fn received(
     time: u64,
     route: Route,
     random: u32,
-    idle: IdleTime,
+    idle: Option<u32>,
     telegram: &[u8],
     net: &[u8],
     out: &mut [u8],

@@ -1,6 +1,6 @@
 -- Worked examples that meet what Demand2 asks for, at level 4 and at level 2; the other files begin with their nodes and records.
 -- Assumes nothing.
-use Rattle.std.specs.Prelude.{◌≡◌, refl, List, [], ◌∷◌, ℕ, ◌+◌, replicate}
+use Rattle.std.specs.Prelude.{◌≡◌, refl, List, [], ◌∷◌, ℕ, ◌+◌, replicate, None}
 use Rattle.std.proofs.Common.{arith, lit<, lit≤}
 use Rattle.checkword.specs.Bytes.{Bytes}
 use Rattle.checkword.specs.Generators.{generator48, generator32}
@@ -21,7 +21,6 @@ use Rattle.link.specs.Times.{watch_over, idle_due}
 use Rattle.link.specs.Judged.{ticked, run_out, run_out_verdict, judged, passed, expected_now}
 use Rattle.link.specs.Steps as steps
 use Rattle.link.specs.Steps.{first_refusal, writing_step, send_refusal, send_of, send_out, tick_refusal, tick_of, tick_out, close_refusal, close_of, close_out, received_refusal, received_of, received_out, declared_by, quietly}
-use Rattle.link.specs.Facts.{none_named}
 use Rattle.link.specs.declared.Record.{Record}
 use Rattle.node.specs.Accepted.{record_at, accepted, bounds_accepted, record_accepted}
 use Rattle.node.specs.Calls.{Call, place_of, called, asked, settled}
@@ -52,7 +51,7 @@ example_open = example_record 4 9 0x01234569 0x89ABCDF1 1000
 
 -- The receipt of a telegram from this sender, with neither an idle time named nor net data for a possible confirm.
 abbrev pub example_receipt : ℕ → List ℕ → Call
-example_receipt sender telegram = Received (record { sender = sender; destination_sap = 3; source_sap = 3 }) 0 (none_named 0) telegram []
+example_receipt sender telegram = Received (record { sender = sender; destination_sap = 3; source_sap = 3 }) 0 None telegram []
 
 -- The two nodes: node 8 sends 01234569h next and expects 89ABCDF1h, and node 9 the other way round. Node 9 last took a telegram at this time.
 abbrev pub example_nodes_at : ℕ → ℕ → Nodes
@@ -85,7 +84,7 @@ example_moment time =
       buffer = replicate 244 0;
       buffer' = replicate 244 0;
       random = 0;
-      idle_time = none_named 0;
+      idle_time = None;
       net = [];
     }
 

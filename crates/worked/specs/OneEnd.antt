@@ -1,6 +1,6 @@
 -- Worked examples of demand 2 at one end: what closes a connection, by which call.
 -- Assumes nothing.
-use Rattle.std.specs.Prelude.{refl, Bool, true, false, List, [], ◌∷◌, ℕ, replicate}
+use Rattle.std.specs.Prelude.{refl, Bool, true, false, List, [], ◌∷◌, ℕ, replicate, None}
 use Rattle.checkword.specs.Generators.{generator48, generator32}
 use Rattle.checkword.specs.Word.{shift, feed}
 use Rattle.ground.specs.Choice.{pick}
@@ -15,7 +15,6 @@ use Rattle.link.specs.Records.{end_of, record_in_range, is_phase, is_closed, at_
 use Rattle.link.specs.Times.{watch_over, wait_over}
 use Rattle.link.specs.Judged.{judged, passed, expected_now, run_out, run_out_verdict, ticked}
 use Rattle.link.specs.Steps.{first_refusal, writing_step, declared_by, open_refusal, open_of, open_out, received_refusal, received_of, received_out, tick_refusal, tick_of, tick_out}
-use Rattle.link.specs.Facts.{none_named}
 use Rattle.link.specs.declared.Record.{Record}
 use Rattle.node.specs.Accepted.{accepted, bounds_accepted, record_accepted}
 use Rattle.node.specs.Calls.{Call, Left, called, asked, settled}
@@ -35,7 +34,7 @@ example_waiting phase = become (fresh_of 9 3 3 4) phase 0x01234569 0 500 0 1000 
 -- The request of a node 9 that was restarted and asks anew.
 abbrev pub example_request : List ℕ
 example_request =
-    telegram_of (called (Open 0 0x89ABCDEF (none_named 0) []) (record { own = 9; latest = 0 }) (fresh_of 8 3 3 4 ∷ []) 1300 (replicate 244 0))
+    telegram_of (called (Open 0 0x89ABCDEF None []) (record { own = 9; latest = 0 }) (fresh_of 8 3 3 4 ∷ []) 1300 (replicate 244 0))
 
 -- So its record at place 0 is closed, with this reason and finally or not.
 abbrev pub ClosesIt : Call → Record → ℕ → ℕ → Bool → Type 0

@@ -1,7 +1,7 @@
 -- Worked examples of demand 2's set-up, at level 4 and at level 2, and at level 4 with other calls between: they meet what the demand asks for, and all that is
 -- given fits.
 -- Assumes nothing.
-use Rattle.std.specs.Prelude.{◌≡◌, refl, List, [], ◌∷◌, ℕ, replicate}
+use Rattle.std.specs.Prelude.{◌≡◌, refl, List, [], ◌∷◌, ℕ, replicate, None}
 use Rattle.std.proofs.Common.{arith, lit<, lit≤}
 use Rattle.checkword.specs.Generators.{generator48, generator32}
 use Rattle.checkword.specs.Word.{shift, feed}
@@ -17,7 +17,6 @@ use Rattle.link.specs.Records.{record_in_range, end_of, is_phase, is_closed, bec
 use Rattle.link.specs.Times.{wait_over}
 use Rattle.link.specs.Judged.{judged, ticked, passed, expected_now, run_out, good_version, good_number}
 use Rattle.link.specs.Steps.{first_refusal, writing_step, open_refusal, open_of, open_out, received_refusal, received_of, received_out, tick_refusal, tick_of, declared_by, quietly}
-use Rattle.link.specs.Facts.{none_named}
 use Rattle.node.specs.Heads.{at}
 use Rattle.node.specs.Accepted.{record_at, accepted, bounds_accepted, record_accepted}
 use Rattle.node.specs.Calls.{Call, refused_outcome, called, asked, settled}
@@ -29,7 +28,7 @@ use Rattle.demands.specs.SetUp.{Given, Parties, table_then, asks, Undisturbed, A
 
 -- Worked example: what a call is given at this time, with this random number and these net data, and no idle time named.
 abbrev pub example_given : ℕ → ℕ → List ℕ → Given
-example_given time random net = record { time = time; out = replicate 244 0; random = random; idle_time = none_named 0; net = net }
+example_given time random net = record { time = time; out = replicate 244 0; random = random; idle_time = None; net = net }
 
 -- A call of a node with a buffer that has room.
 abbrev pub example_made : Call → ℕ → Made
@@ -105,7 +104,7 @@ example_sets_up = (
 abbrev pub example_busy : Parties
 example_busy =
     example_parties 4 0x01234567 0x89ABCDEF
-    (example_made (Send 2 0x09 []) 1003 ∷ example_made (Open 1 5 (none_named 0) []) 1005 ∷ example_made (Tick 0) 1015 ∷ []) (example_made (Tick 0) 1025 ∷ [])
+    (example_made (Send 2 0x09 []) 1003 ∷ example_made (Open 1 5 None []) 1005 ∷ example_made (Tick 0) 1015 ∷ []) (example_made (Tick 0) 1025 ∷ [])
     (example_made (Tick 0) 1035 ∷ [])
 
 -- Then too nothing disturbs it, and all that is given fits; and the call for node 10 was done: a confirm is awaited of it.

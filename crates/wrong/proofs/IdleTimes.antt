@@ -9,6 +9,7 @@ use Prim.Native.Nat.{ℕ, ◌%◌, ◌≤◌}
 use native.Mathlib.Omega.{arith}
 use lib.ListN.{replicate, get_or}
 use lib.Dec.{lit<, lit≤}
+use Rattle.std.specs.Prelude.{Option, Some, None}
 use Rattle.ground.specs.Choice.{pick}
 use Rattle.telegram.specs.Levels.{word_length}
 use Rattle.telegram.specs.Ends.{is_level, in_range, mirrored}
@@ -24,9 +25,7 @@ use Rattle.telegram.proofs.Apart.{passed}
 use Rattle.link.specs.Records.{end_of, is_phase, is_closed, at_rest, record_in_range, fresh_of}
 use Rattle.link.specs.Judged.{expected_now}
 use Rattle.link.specs.Steps.{declared_by, open_refusal, open_of, open_out, received_refusal, received_of, received_out}
-use Rattle.link.specs.Facts.{naming, none_named}
 use Rattle.link.specs.declared.Record.{Record}
-use Rattle.link.specs.declared.IdleTime.{IdleTime}
 use Rattle.node.specs.declared.Head.{Head}
 use Rattle.node.specs.Accepted.{record_at, record_accepted, bounds_accepted, accepted}
 use Rattle.node.specs.Calls.{Left, Link, asked, called}
@@ -65,7 +64,7 @@ there l = record { own = 9; partner = 8; partner_sap = 4; local_sap = 3; level =
 abbrev asking : ℕ → List ℕ
 asking l = request (there l) 0 0 []
 
-abbrev comes : ℕ → IdleTime → Receipt
+abbrev comes : ℕ → Option ℕ → Receipt
 comes l i =
     record {
       route = record { sender = 9; destination_sap = 4; source_sap = 3 };
@@ -99,11 +98,11 @@ levels l is = by (of_levels l is)
     by (inr e) = subst Level (sym e) level_2
 
 -- it is for the one record, and it is a good request
-for_it : (l : ℕ) (i : IdleTime) → place_for (comes l i) ≡ 0
+for_it : (l : ℕ) (i : Option ℕ) → place_for (comes l i) ≡ 0
 unfolding fresh_of pick
 for_it l i = refl
 
-good_request : (l : ℕ) (i : IdleTime) → Level l → GoodRequest (comes l i)
+good_request : (l : ℕ) (i : Option ℕ) → Level l → GoodRequest (comes l i)
 unfolding fresh_of end_of expected_now pick
 good_request l i k = record { passes = k.taken.passes; kind = k.taken.kind; version = good_version_holds (asking l) k.taken.fields }
 
@@ -127,37 +126,37 @@ settled x time number is allowed done = record { so = so (good_idle x) is; away 
     away false e z bad = refl
 
 -- An opening, and a confirm, that a link makes as ours makes it when x is named.
-module _ (link : Link) (x l : ℕ) (k : Level l) (i : IdleTime) (time : ℕ) (bytes : List ℕ) (d : Declares link i time bytes) where
-  asked_as : link (Open 0 0 i []) head (table l) 0 room ≡ called (Open 0 0 (naming x) []) head (table l) 0 room → Settled x time
+module _ (link : Link) (x l : ℕ) (k : Level l) (i : Option ℕ) (time : ℕ) (bytes : List ℕ) (d : Declares link i time bytes) where
+  asked_as : link (Open 0 0 i []) head (table l) 0 room ≡ called (Open 0 0 (Some x) []) head (table l) 0 room → Settled x time
   unfolding fresh_of
   asked_as e =
-      let number : (link (Open 0 0 i []) head (table l) 0 room).outcome.answer.number ≡ (called (Open 0 0 (naming x) []) head (table l) 0 room).outcome.answer.number =
+      let number : (link (Open 0 0 i []) head (table l) 0 room).outcome.answer.number ≡ (called (Open 0 0 (Some x) []) head (table l) 0 room).outcome.answer.number =
       ap (λ (y : Left). y.outcome.answer.number) e in
-      settled x time (called (Open 0 0 (naming x) []) head (table l) 0 room).outcome.answer.number
+      settled x time (called (Open 0 0 (Some x) []) head (table l) 0 room).outcome.answer.number
       ((idle_time_answers x _ refl).by_open head (table l) 0 0 0 [] room k.good (lit≤ tt) (lit≤ tt) (lit< tt) refl (omega arith))
       (λ most_is hundreds five. let long = d.opening_allowed most_is hundreds 0 0 [] head (table l) 0 room (number ∙ five) in omega arith)
       (λ done.
       sym ((demand_2_idle_times.named x).opening 0 0 [] head (table l) 0 room done).declared ∙ sym (ap (λ (y : Left). (record_at y.table 0).declared) e)
       ∙ (d.opening 0 0 [] head (table l) 0 room (number ∙ done)).declared)
 
-  confirmed_as : takes link (comes l i) ≡ takes called (comes l (naming x)) → Settled x time
+  confirmed_as : takes link (comes l i) ≡ takes called (comes l (Some x)) → Settled x time
   unfolding fresh_of pick
   confirmed_as e =
-      let number : (takes link (comes l i)).outcome.answer.number ≡ (takes called (comes l (naming x))).outcome.answer.number = ap (λ (y : Left). y.outcome.answer.number) e in
-      settled x time (takes called (comes l (naming x))).outcome.answer.number
+      let number : (takes link (comes l i)).outcome.answer.number ≡ (takes called (comes l (Some x))).outcome.answer.number = ap (λ (y : Left). y.outcome.answer.number) e in
+      settled x time (takes called (comes l (Some x))).outcome.answer.number
       ((idle_time_answers x _ refl).by_received head (table l) 0 (comes l i).route 0 (asking l) [] room k.good (lit≤ tt) (lit≤ tt)
       (passed (mirrored (there l)) 0 (asking l) k.taken.passes).on_bus_holds (lit< tt) (λ e. omega arith) (omega arith))
       (λ most_is hundreds five. let long = d.receipt_allowed most_is hundreds (comes l i) refl (number ∙ five) in omega arith)
       (λ done.
-      sym ((demand_2_idle_times.named x).confirming (comes l (naming x)) refl refl (good_request l (naming x) k) done).declared
+      sym ((demand_2_idle_times.named x).confirming (comes l (Some x)) refl refl (good_request l (Some x) k) done).declared
       ∙ sym (ap (λ (y : Left). (record_at y.table 0).declared) e) ∙ (d.confirming (comes l i) refl refl (good_request l i k) (number ∙ done)).declared)
 
 -- Where it is settled for every idle time, the rule is as the papers say.
-as_the_papers_say : (rule : Rule) → ((l : ℕ) → is_level l ≡ true → (beside : ℕ) → Settled (rule l (none_named beside)) 1000)
-    → ((l : ℕ) → is_level l ≡ true → (time : ℕ) → Settled (rule l (naming time)) time) → AsThePapersSay rule
+as_the_papers_say : (rule : Rule) → ((l : ℕ) → is_level l ≡ true → Settled (rule l None) 1000)
+    → ((l : ℕ) → is_level l ≡ true → (time : ℕ) → Settled (rule l (Some time)) time) → AsThePapersSay rule
 as_the_papers_say rule none named =
     record {
-      none = λ l beside level. (none l level beside).so (lit≤ tt) refl;
+      none = λ l level. (none l level).so (lit≤ tt) refl;
       named = λ l time level. (named l level time).so;
       turned_away = λ l time level. (named l level time).away;
     }
@@ -166,11 +165,11 @@ pub no_other_rule : NoOtherRule
 unfolding fresh_of pick
 no_other_rule asks confirms d = (
   as_the_papers_say asks
-      (λ l level beside. asked_as (declaring asks confirms) (asks l (none_named beside)) l (levels l level) (none_named beside) 1000 _ (d.none beside) refl)
-      (λ l level time. asked_as (declaring asks confirms) (asks l (naming time)) l (levels l level) (naming time) time _ (d.named time) refl),
+      (λ l level. asked_as (declaring asks confirms) (asks l None) l (levels l level) None 1000 _ d.none refl)
+      (λ l level time. asked_as (declaring asks confirms) (asks l (Some time)) l (levels l level) (Some time) time _ (d.named time) refl),
   as_the_papers_say confirms
-      (λ l level beside. confirmed_as (declaring asks confirms) (confirms l (none_named beside)) l (levels l level) (none_named beside) 1000 _ (d.none beside) refl)
-      (λ l level time. confirmed_as (declaring asks confirms) (confirms l (naming time)) l (levels l level) (naming time) time _ (d.named time) refl),
+      (λ l level. confirmed_as (declaring asks confirms) (confirms l None) l (levels l level) None 1000 _ d.none refl)
+      (λ l level time. confirmed_as (declaring asks confirms) (confirms l (Some time)) l (levels l level) (Some time) time _ (d.named time) refl),
 )
 
 -- The request of node 9 carries 0.
@@ -178,7 +177,7 @@ partners_time_is_shut_out : PartnersTimeIsShutOut
 unfolding fresh_of pick
 partners_time_is_shut_out d =
     let zero_is : idle_time_of (asking 4) ≡ 0 = ap (λ (vs : List ℕ). get_or vs 1 0) level_4.taken.fields in
-    let same : idle_time_of (asking 4) ≡ 1000 = (confirmed_as partners_time (idle_time_of (asking 4)) 4 level_4 (none_named 0) 1000 _ (d.none 0) refl).so (lit≤ tt) refl in
+    let same : idle_time_of (asking 4) ≡ 1000 = (confirmed_as partners_time (idle_time_of (asking 4)) 4 level_4 None 1000 _ d.none refl).so (lit≤ tt) refl in
     omega arith
 
 pub wrong_idle_times_are_shut_out : WrongIdleTimesAreShutOut
@@ -187,11 +186,11 @@ wrong_idle_times_are_shut_out =
     record {
       declaring_by_our_rule_is_ours = declaring_by_our_rule_is_ours;
       no_other_rule = no_other_rule;
-      openings_with_500 = λ confirms d. let e : ◌≡◌ {A = ℕ} 500 1000 = (no_other_rule with500 confirms d).0.none 4 0 refl in omega arith;
-      confirms_with_500 = λ asks d. let e : ◌≡◌ {A = ℕ} 500 1000 = (no_other_rule asks with500 d).1.none 4 0 refl in omega arith;
-      level_2_with_500 = λ d. let e : ◌≡◌ {A = ℕ} 500 1000 = (no_other_rule with500_at2 with500_at2 d).0.none 2 0 refl in omega arith;
-      number_beside_the_flag = λ d. let e : ◌≡◌ {A = ℕ} 50 1000 = (no_other_rule number_beside number_beside d).0.none 4 50 refl in omega arith;
+      openings_with_500 = λ confirms d. let e : ◌≡◌ {A = ℕ} 500 1000 = (no_other_rule with500 confirms d).0.none 4 refl in omega arith;
+      confirms_with_500 = λ asks d. let e : ◌≡◌ {A = ℕ} 500 1000 = (no_other_rule asks with500 d).1.none 4 refl in omega arith;
+      level_2_with_500 = λ d. let e : ◌≡◌ {A = ℕ} 500 1000 = (no_other_rule with500_at2 with500_at2 d).0.none 2 refl in omega arith;
+      number_beside_the_flag = λ beside other d. other ((no_other_rule (number_beside beside) (number_beside beside) d).0.none 4 refl);
       zero_taken_for_none = λ d. let e : ◌≡◌ {A = ℕ} 1000 0 = (no_other_rule zero_is_none zero_is_none d).0.named 4 0 refl (lit≤ tt) refl in omega arith;
-      refusing_where_none_is_named = λ d. let e : ◌≡◌ {A = ℕ} 65535 1000 = (no_other_rule unwritable unwritable d).0.none 4 0 refl in omega arith;
+      refusing_where_none_is_named = λ d. let e : ◌≡◌ {A = ℕ} 65535 1000 = (no_other_rule unwritable unwritable d).0.none 4 refl in omega arith;
       partners_time_holds = partners_time_is_shut_out;
     }

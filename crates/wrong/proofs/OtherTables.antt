@@ -8,6 +8,7 @@ use native.Mathlib.Omega.{arith}
 use lib.ListN.{length, replicate, get_or}
 use lib.Dec.{leb, eqb}
 use borrow.Author.Tests.{eq-eqb}
+use Rattle.std.specs.Prelude.{None}
 use Rattle.ground.specs.Choice.{pick, all}
 use Rattle.telegram.specs.Levels.{word_length, level_of}
 use Rattle.telegram.specs.Commands.{kind_of_command, kind_of, is_data}
@@ -35,7 +36,6 @@ use Rattle.link.specs.Times.{wait_over, watch_over, idle_due}
 use Rattle.link.specs.Table.{Cell, Row, ◌⇒◌, f00, defect, reading, Connect-snd, Data-snd, Timeout-snd, Timeout-rcv, Timeout-brk, Data-rcv, Idle-rcv, Incorrect-rcv-1st, Incorrect-rcv-2nd, ConReq-rcv, ConAck-rcv, AuthReq-rcv, AuthAck-rcv, Discon-snd, FDiscon-snd, Discon-rcv}
 use Rattle.link.specs.Judged.{row_of, good_version, good_number, back, expected_now, run_out}
 use Rattle.link.specs.Steps.{first_refusal, declared_by, open_refusal, open_of, open_out, close_refusal, close_of, close_out, send_refusal, send_of, send_out, received_refusal, received_of, received_out, tick_refusal, tick_of, tick_out}
-use Rattle.link.specs.Facts.{none_named}
 use Rattle.link.specs.Bound.{Sent, none, connectRequest, connectConfirm, authentication, acknowledgement, data_telegram, idleTelegram, disconnect, finalDisconnect, number_of, Stands, of_phase, Obeys, Keeps, instead, Timer, interval, watch, wait, row_of_timer, runs, TableBinds}
 use Rattle.wrong.specs.OtherTables.{Alike, NoOtherTable}
 use Rattle.link.specs.declared.Record.{Record}
@@ -130,9 +130,9 @@ room = replicate 244 0
 
 -- What the layer above asks for
 
-asked_open : (p : ℕ) → 1 ≤ p → p ≤ 6 → of_phase (open_refusal (at p 0 0) 8 (none_named 0) [] room) ≡ true
+asked_open : (p : ℕ) → 1 ≤ p → p ≤ 6 → of_phase (open_refusal (at p 0 0) 8 None [] room) ≡ true
 unfolding open_refusal first_refusal record_in_range is_phase is_closed at_rest in_range end_of good_idle connect_allowed declared_by word_length pick
-asked_open p l h = columns (λ (q : ℕ). of_phase (open_refusal (at q 0 0) 8 (none_named 0) [] room) ≡ true) p l h refl refl refl refl refl refl
+asked_open p l h = columns (λ (q : ℕ). of_phase (open_refusal (at q 0 0) 8 None [] room) ≡ true) p l h refl refl refl refl refl refl
 
 asked_send : (p : ℕ) → 1 ≤ p → p ≤ 6 → of_phase (send_refusal (at p 0 0) 8 0x20 [] room) ≡ true
 unfolding send_refusal first_refusal record_in_range is_phase is_closed at_rest in_range end_of good_idle data_allowed is_data word_length pick
@@ -178,7 +178,7 @@ unfolding good_idle run_out wait_over pick
 waited p l h =
     seen Timeout-brk (at p 0 0) 8 5001 room (tick_of (at p 0 0) 8 5001 room) (tick_out (at p 0 0) 8 5001 room)
     (rw (answers.by_tick (at p 0 0) 8 5001 room) (ticking p 0 0 refl refl l (omega arith)))
-    (λ table binds. (binds.waited (at p 0 0) 8 5001 0 (none_named 0) [] [] room (λ e. omega arith) (out p l h)).1)
+    (λ table binds. (binds.waited (at p 0 0) 8 5001 0 None [] [] room (λ e. omega arith) (out p l h)).1)
   where
     out : (p : ℕ) → 2 ≤ p → p ≤ 4 → run_out (at p 0 0) 5001 ≡ true
     out p l h =
@@ -191,7 +191,7 @@ unfolding good_idle run_out watch_over pick
 silent =
     seen Timeout-rcv (at 5 0 100) 8 101 room (tick_of (at 5 0 100) 8 101 room) (tick_out (at 5 0 100) 8 101 room)
     (rw (answers.by_tick (at 5 0 100) 8 101 room) (ticking 5 0 100 refl refl (omega arith) (omega arith)))
-    (λ table binds. (binds.silent (at 5 0 100) 8 101 0 (none_named 0) [] [] room refl refl).1)
+    (λ table binds. (binds.silent (at 5 0 100) 8 101 0 None [] [] room refl refl).1)
 
 due : Seen Timeout-snd 5
 unfolding good_idle run_out watch_over idle_due pick
@@ -202,10 +202,10 @@ due =
 
 -- Telegrams
 
-receiving : (p : ℕ) (t : List ℕ) → on_bus (length t) ≡ true → 1 ≤ p → p ≤ 6 → of_phase (received_refusal (at p 0 0) 8 (none_named 0) t [] room) ≡ true
+receiving : (p : ℕ) (t : List ℕ) → on_bus (length t) ≡ true → 1 ≤ p → p ≤ 6 → of_phase (received_refusal (at p 0 0) 8 None t [] room) ≡ true
 unfolding received_refusal first_refusal record_in_range is_phase is_closed at_rest in_range end_of good_idle connect_allowed declared_by word_length pick
 receiving p t b l h =
-    columns (λ (q : ℕ). of_phase (received_refusal (at q 0 0) 8 (none_named 0) t [] room) ≡ true) p l h (rw b) (rw b) (rw b) (rw b) (rw b) (rw b)
+    columns (λ (q : ℕ). of_phase (received_refusal (at q 0 0) 8 None t [] room) ≡ true) p l h (rw b) (rw b) (rw b) (rw b) (rw b) (rw b)
 
 expects : (p : ℕ) → expected_now (at p 0 0) ≡ 0
 unfolding expected_now pick
@@ -225,11 +225,11 @@ fails = refl
 
 failed : (row : Row) (p : ℕ) → 1 ≤ p → p ≤ 6
     → ((table : Row → ℕ → Cell) → TableBinds table → check_of (end_of (at p 0 0) 8) (expected_now (at p 0 0)) zeros ≡ Failed clause.Level
-    → Keeps (table row p) (at p 0 0) 8 0 room (received_of (at p 0 0) 8 0 0 (none_named 0) zeros [] room) (received_out (at p 0 0) 8 0 0 (none_named 0) zeros [] room)) → Seen row p
+    → Keeps (table row p) (at p 0 0) 8 0 room (received_of (at p 0 0) 8 0 0 None zeros [] room) (received_out (at p 0 0) 8 0 0 None zeros [] room)) → Seen row p
 unfolding end_of pick
 failed row p l h by =
-    seen row (at p 0 0) 8 0 room (received_of (at p 0 0) 8 0 0 (none_named 0) zeros [] room) (received_out (at p 0 0) 8 0 0 (none_named 0) zeros [] room)
-    (rw (answers.by_received (at p 0 0) 8 0 0 (none_named 0) zeros [] room) (receiving p zeros refl l h)) (λ table binds. by table binds (rw (expects p) fails))
+    seen row (at p 0 0) 8 0 room (received_of (at p 0 0) 8 0 0 None zeros [] room) (received_out (at p 0 0) 8 0 0 None zeros [] room)
+    (rw (answers.by_received (at p 0 0) 8 0 0 None zeros [] room) (receiving p zeros refl l h)) (λ table binds. by table binds (rw (expects p) fails))
 
 -- node 9's end of the connection writes
 abbrev there : End
@@ -239,13 +239,13 @@ there = record { own = 9; partner = 8; partner_sap = 3; local_sap = 3; level = 4
 seen_of : (k : Kind) (p : ℕ) (t : List ℕ) (vs net : List ℕ) → 1 ≤ p → p ≤ 6 → Taken there 0 t k vs net → ((c : Cell) → instead k p (at p 0 0) t c ≡ c) → Seen (row_of k) p
 unfolding end_of
 seen_of k p t vs net l h taken plain =
-    seen (row_of k) (at p 0 0) 8 0 room (received_of (at p 0 0) 8 0 0 (none_named 0) t [] room) (received_out (at p 0 0) 8 0 0 (none_named 0) t [] room)
-    (rw (answers.by_received (at p 0 0) 8 0 0 (none_named 0) t [] room) (receiving p t (passed (mirrored there) 0 t taken.passes).on_bus_holds l h))
-    (λ table binds. of_kind table (binds.passing (at p 0 0) 8 0 0 (none_named 0) t [] room (in_time p l h) (rw (expects p) taken.passes)))
+    seen (row_of k) (at p 0 0) 8 0 room (received_of (at p 0 0) 8 0 0 None t [] room) (received_out (at p 0 0) 8 0 0 None t [] room)
+    (rw (answers.by_received (at p 0 0) 8 0 0 None t [] room) (receiving p t (passed (mirrored there) 0 t taken.passes).on_bus_holds l h))
+    (λ table binds. of_kind table (binds.passing (at p 0 0) 8 0 0 None t [] room (in_time p l h) (rw (expects p) taken.passes)))
   where
     of_kind : (table : Row → ℕ → Cell)
-        → Keeps (instead (kind_of_command (command_of t)) p (at p 0 0) t (table (row_of (kind_of_command (command_of t))) p)) (at p 0 0) 8 0 room (received_of (at p 0 0) 8 0 0 (none_named 0) t [] room) (received_out (at p 0 0) 8 0 0 (none_named 0) t [] room)
-        → Keeps (table (row_of k) p) (at p 0 0) 8 0 room (received_of (at p 0 0) 8 0 0 (none_named 0) t [] room) (received_out (at p 0 0) 8 0 0 (none_named 0) t [] room)
+        → Keeps (instead (kind_of_command (command_of t)) p (at p 0 0) t (table (row_of (kind_of_command (command_of t))) p)) (at p 0 0) 8 0 room (received_of (at p 0 0) 8 0 0 None t [] room) (received_out (at p 0 0) 8 0 0 None t [] room)
+        → Keeps (table (row_of k) p) (at p 0 0) 8 0 room (received_of (at p 0 0) 8 0 0 None t [] room) (received_out (at p 0 0) 8 0 0 None t [] room)
     of_kind table x = rw (← plain (table (row_of k) p), ← taken.kind) x
 
 either_way : (b : Bool) (c : Cell) → pick b c c ≡ c
@@ -307,8 +307,8 @@ sent_data p l h = seen_of kind.Data p (telegrams.data_telegram there 0 0x20 []) 
 pub no_other_table : NoOtherTable
 unfolding pick
 no_other_table table binds Connect-snd p l h =
-    seen Connect-snd (at p 0 0) 8 0 room (open_of (at p 0 0) 8 0 0 (none_named 0) [] room) (open_out (at p 0 0) 8 0 (none_named 0) [] room)
-    (rw (answers.by_open (at p 0 0) 8 0 0 (none_named 0) [] room) (asked_open p l h)) (λ table binds. binds.connect_snd (at p 0 0) 8 0 0 (none_named 0) [] room) table binds
+    seen Connect-snd (at p 0 0) 8 0 room (open_of (at p 0 0) 8 0 0 None [] room) (open_out (at p 0 0) 8 0 None [] room)
+    (rw (answers.by_open (at p 0 0) 8 0 0 None [] room) (asked_open p l h)) (λ table binds. binds.connect_snd (at p 0 0) 8 0 0 None [] room) table binds
 no_other_table table binds Data-snd p l h =
     seen Data-snd (at p 0 0) 8 0 room (send_of (at p 0 0) 8 0 0x20 [] room) (send_out (at p 0 0) 8 0x20 [] room)
     (rw (answers.by_send (at p 0 0) 8 0 0x20 [] room) (asked_send p l h)) (λ table binds. binds.data_snd (at p 0 0) 8 0 0x20 [] room) table binds
@@ -328,9 +328,9 @@ no_other_table table binds Timeout-brk p l h =
     columns (λ (q : ℕ). Seen Timeout-brk q) p l h (resting wait 1 (omega arith) (omega arith) refl) (waited 2 (omega arith) (omega arith)) (waited 3 (omega arith) (omega arith))
     (waited 4 (omega arith) (omega arith)) (resting wait 5 (omega arith) (omega arith) refl) (resting wait 6 (omega arith) (omega arith) refl) table binds
 no_other_table table binds Incorrect-rcv-1st p l h =
-    failed Incorrect-rcv-1st p l h (λ table binds e. (binds.failing (at p 0 0) 8 0 0 (none_named 0) zeros [] room clause.Level (in_time p l h) e).0) table binds
+    failed Incorrect-rcv-1st p l h (λ table binds e. (binds.failing (at p 0 0) 8 0 0 None zeros [] room clause.Level (in_time p l h) e).0) table binds
 no_other_table table binds Incorrect-rcv-2nd p l h =
-    failed Incorrect-rcv-2nd p l h (λ table binds e. (binds.failing (at p 0 0) 8 0 0 (none_named 0) zeros [] room clause.Level (in_time p l h) e).1) table binds
+    failed Incorrect-rcv-2nd p l h (λ table binds e. (binds.failing (at p 0 0) 8 0 0 None zeros [] room clause.Level (in_time p l h) e).1) table binds
 no_other_table table binds Data-rcv p l h = sent_data p l h table binds
 no_other_table table binds Idle-rcv p l h = idled p l h table binds
 no_other_table table binds ConReq-rcv p l h = requested p l h table binds

@@ -10,6 +10,7 @@ use native.Mathlib.Omega.{arith}
 use lib.ListN.{length, get_or, replicate}
 use lib.Dec.{leb, eqb, lit<, lit≤}
 use borrow.Author.Tests.{eq-eqb, eqb-true}
+use Rattle.std.specs.Prelude.{None}
 use Rattle.checkword.specs.Bytes.{number, bytes_of}
 use Rattle.checkword.specs.Generators.{generator32}
 use Rattle.checkword.specs.Word.{shift, feed}
@@ -33,7 +34,6 @@ use Rattle.link.specs.Times.{wait_over, watch_over, idle_due}
 use Rattle.link.specs.Judged.{row_of, ruled, narrowed, checked_by, judged, passed, expected_now, run_out, run_out_verdict, ticked, good_version, good_number}
 use Rattle.link.specs.Steps as steps
 use Rattle.link.specs.Steps.{first_refusal, writing_step, declared_by, quietly, taken, open_refusal, open_of, open_out, close_refusal, close_of, send_refusal, send_of, send_out, received_refusal, received_of, received_out, tick_refusal, tick_of, tick_out}
-use Rattle.link.specs.Facts.{none_named}
 use Rattle.link.specs.Plain.{happened}
 use Rattle.link.specs.declared.Record.{Record}
 use Rattle.link.specs.declared.Event.{Event}
@@ -180,7 +180,7 @@ abbrev room : List ℕ
 room = replicate 244 0
 
 abbrev moment : ℕ → Moment
-moment time = record { sent_at = time; received_at = time + 50; buffer = room; buffer' = room; random = 0; idle_time = none_named 0; net = [] }
+moment time = record { sent_at = time; received_at = time + 50; buffer = room; buffer' = room; random = 0; idle_time = None; net = [] }
 
 nothing_wrong : NothingWrong nodes 0 (moment 100)
 unfolding accepted bounds_accepted record_accepted record_in_range end_of in_range is_phase is_closed good_idle fresh_of become connect_allowed declared_by pick word_length
@@ -274,7 +274,7 @@ refusing_late_ticks_is_shut_out d =
 
 -- A telegram of node 9, or of node 10, for node 8.
 abbrev from : ℕ → List ℕ → Call
-from sender telegram = Received (record { sender = sender; destination_sap = 3; source_sap = 3 }) 0 (none_named 0) telegram []
+from sender telegram = Received (record { sender = sender; destination_sap = 3; source_sap = 3 }) 0 None telegram []
 
 -- Data 09h of node 9 with the net byte 1, which pass the check, come 501 after the last telegram, with a watch of 500: they are handed up (2), where the
 -- connection is to be closed (3).
@@ -287,7 +287,7 @@ taking_what_comes_too_late_is_shut_out d =
     let z : ◌≡◌ {A = ℕ} 2 3 =
     ap (λ (x : Event). (happened x).event)
     (d.one_end.silence_closes_here (from 9 data_of_9) head (at_2 9 5 0 0 500 ∷ []) 0 501 room
-    (receipt (record { sender = 9; destination_sap = 3; source_sap = 3 }) 0 (none_named 0) data_of_9 [] refl refl) refl (λ e. omega arith) (lit< tt) refl).says in
+    (receipt (record { sender = 9; destination_sap = 3; source_sap = 3 }) 0 None data_of_9 [] refl refl) refl (λ e. omega arith) (lit< tt) refl).says in
     omega arith
 
 pub numbering_by_our_number_is_ours : NumberingByOurNumberIsOurs
@@ -347,7 +347,7 @@ wrong_number_by_05_is_shut_out d =
     (record {
       route = record { sender = 9; destination_sap = 3; source_sap = 3 };
       random = 0;
-      idle_time = none_named 0;
+      idle_time = None;
       telegram = acknowledged_1;
       net = [];
       head = head;
@@ -404,7 +404,7 @@ unfolding called asked settled accepted bounds_accepted record_accepted record_i
 net_data_one_byte_further_are_shut_out d =
     let z : ◌≡◌ {A = ℕ} 0x9C 0x01 =
     ap (λ (l : List ℕ). get_or l 0 0)
-    (d.one_end.net_data_handed_on (record { sender = 9; destination_sap = 3; source_sap = 3 }) 0 (none_named 0) data_of_9 [] head
+    (d.one_end.net_data_handed_on (record { sender = 9; destination_sap = 3; source_sap = 3 }) 0 None data_of_9 [] head
     nodes.table 0 room refl) in
     omega arith
 
@@ -426,7 +426,7 @@ unfolding called asked settled accepted bounds_accepted record_accepted record_i
 reopening_is_shut_out d =
     let z : ◌≡◌ {A = ℕ} 2 6 =
     ap (λ (r : Record). r.phase)
-    (d.one_end.never_reopens head (at_2 9 6 0 0 0 ∷ []) (record { call = Open 0 0 (none_named 0) []; time = 0; buffer = room } ∷ []) 0 refl) in
+    (d.one_end.never_reopens head (at_2 9 6 0 0 0 ∷ []) (record { call = Open 0 0 None []; time = 0; buffer = room } ∷ []) 0 refl) in
     omega arith
 
 -- Closed finally, by the layer above.

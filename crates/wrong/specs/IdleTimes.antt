@@ -2,15 +2,13 @@
 -- `declared_by`: a fault in that definition and in the code alike is such a link, and is shut out too. proofs/IdleTimes.antt proves them as
 -- `wrong_idle_times_are_shut_out`.
 -- Assumes nothing.
-use Rattle.std.specs.Prelude.{◌≡◌, true, false, List, ℕ, ◌%◌, ◌≤◌, eqb}
+use Rattle.std.specs.Prelude.{◌≡◌, true, false, List, ℕ, ◌%◌, ◌≤◌, eqb, ◌≢◌, Option, Some, None, unwrap_or}
 use Rattle.ground.specs.Choice.{pick}
 use Rattle.telegram.specs.Ends.{is_level}
 use Rattle.telegram.specs.Values.{good_idle}
 use Rattle.telegram.specs.Fields.{idle_time_of}
 use Rattle.link.specs.Steps.{declared_by}
-use Rattle.link.specs.Facts.{naming, none_named}
 use Rattle.link.specs.declared.Record.{Record}
-use Rattle.link.specs.declared.IdleTime.{IdleTime}
 use Rattle.node.specs.declared.Head.{Head}
 use Rattle.node.specs.Accepted.{record_at}
 use Rattle.node.specs.Matching.{first_match}
@@ -20,13 +18,13 @@ use Rattle.demands.specs.IdleTimes.{Demand2IdleTimes}
 
 -- What is declared, by the level of the record and what the call names.
 abbrev pub Rule : Type 0
-Rule = ℕ → IdleTime → ℕ
+Rule = ℕ → Option ℕ → ℕ
 
 -- As ours, but an opening and a confirm declare by these rules: each goes on as if the caller had named what its rule says.
 abbrev pub declaring : Rule → Rule → Link
-declaring asks confirms (Open place random i net) h t time d = called (Open place random (naming (asks (record_at t place).level i)) net) h t time d
+declaring asks confirms (Open place random i net) h t time d = called (Open place random (Some (asks (record_at t place).level i)) net) h t time d
 declaring asks confirms (Received w random i telegram net) h t time d =
-    called (Received w random (naming (confirms (record_at t (first_match w t)).level i)) telegram net) h t time d
+    called (Received w random (Some (confirms (record_at t (first_match w t)).level i)) telegram net) h t time d
 declaring asks confirms (Close place type reason text) h t time d = called (Close place type reason text) h t time d
 declaring asks confirms (Send place low net) h t time d = called (Send place low net) h t time d
 declaring asks confirms (Tick place) h t time d = called (Tick place) h t time d
@@ -40,10 +38,10 @@ DeclaringByOurRuleIsOurs = (c : Call) (h : Head) (t : List Record) (time : ℕ) 
 
 -- A rule that declares, at both levels, 1,000 where none is named, and the time that is, where a telegram may carry it (5.2.1.3).
 pub record AsThePapersSay (rule : Rule) : Type 0 where
-  pub none : (l beside : ℕ) → is_level l ≡ true → rule l (none_named beside) ≡ 1000
-  pub named : (l time : ℕ) → is_level l ≡ true → time ≤ 65500 → time % 100 ≡ 0 → rule l (naming time) ≡ time
+  pub none : (l : ℕ) → is_level l ≡ true → rule l None ≡ 1000
+  pub named : (l time : ℕ) → is_level l ≡ true → time ≤ 65500 → time % 100 ≡ 0 → rule l (Some time) ≡ time
   -- what answer 5 turns away is not made into something that it lets through
-  pub turned_away : (l time : ℕ) → is_level l ≡ true → good_idle time ≡ false → good_idle (rule l (naming time)) ≡ false
+  pub turned_away : (l time : ℕ) → is_level l ≡ true → good_idle time ≡ false → good_idle (rule l (Some time)) ≡ false
 
 -- No link of these meets the numbers by another rule, for its openings or for its confirms.
 abbrev pub NoOtherRule : Type 0
@@ -51,7 +49,7 @@ NoOtherRule = (asks confirms : Rule) → Demand2IdleTimes (declaring asks confir
 
 -- 500 where none is named: by openings, whatever confirms declare, or by confirms, whatever openings do.
 abbrev pub with500 : Rule
-with500 l i = pick i.named i.time 500
+with500 l i = unwrap_or i 500
 
 abbrev pub OpeningsWith500AreShutOut : Type 0
 OpeningsWith500AreShutOut = (confirms : Rule) → Demand2IdleTimes (declaring with500 confirms) → ⊥
@@ -66,23 +64,23 @@ with500_at2 l i = pick (eqb l 2) (with500 l i) (declared_by i)
 abbrev pub Level2With500IsShutOut : Type 0
 Level2With500IsShutOut = Demand2IdleTimes (declaring with500_at2 with500_at2) → ⊥
 
--- The flag is not looked at: the number beside it is declared.
-abbrev pub number_beside : Rule
-number_beside l i = i.time
+-- The flag of a call from C is not looked at: where it names none, the number beside it is declared, whichever that is but 1,000 itself.
+abbrev pub number_beside : ℕ → Rule
+number_beside beside l i = unwrap_or i beside
 
 abbrev pub NumberBesideTheFlagIsShutOut : Type 0
-NumberBesideTheFlagIsShutOut = Demand2IdleTimes (declaring number_beside number_beside) → ⊥
+NumberBesideTheFlagIsShutOut = (beside : ℕ) → (beside ≢ 1000) → Demand2IdleTimes (declaring (number_beside beside) (number_beside beside)) → ⊥
 
 -- 0 that is named is taken for none named.
 abbrev pub zero_is_none : Rule
-zero_is_none l i = pick (eqb i.time 0) 1000 (declared_by i)
+zero_is_none l i = pick (eqb (declared_by i) 0) 1000 (declared_by i)
 
 abbrev pub ZeroTakenForNoneIsShutOut : Type 0
 ZeroTakenForNoneIsShutOut = Demand2IdleTimes (declaring zero_is_none zero_is_none) → ⊥
 
 -- 65,535 where none is named, which no telegram may carry: every such call is refused.
 abbrev pub unwritable : Rule
-unwritable l i = pick i.named i.time 65535
+unwritable l i = unwrap_or i 65535
 
 abbrev pub RefusingWhereNoneIsNamedIsShutOut : Type 0
 RefusingWhereNoneIsNamedIsShutOut = Demand2IdleTimes (declaring unwritable unwritable) → ⊥
@@ -90,7 +88,7 @@ RefusingWhereNoneIsNamedIsShutOut = Demand2IdleTimes (declaring unwritable unwri
 -- A confirm that names no time declares the partner's, which the request brought.
 abbrev pub partners_time : Link
 partners_time (Received w random i telegram net) h t time d =
-    called (Received w random (naming (pick i.named i.time (idle_time_of telegram))) telegram net) h t time d
+    called (Received w random (Some (unwrap_or i (idle_time_of telegram))) telegram net) h t time d
 partners_time (Open place random i net) h t time d = called (Open place random i net) h t time d
 partners_time (Close place type reason text) h t time d = called (Close place type reason text) h t time d
 partners_time (Send place low net) h t time d = called (Send place low net) h t time d

@@ -1,7 +1,7 @@
 -- Wrong links and wrong checks, each with a fault that somebody would make, and of each the statement that a demand shuts it out. proofs/WrongLinks.antt proves
 -- each statement by one case, under the same name in snake case.
 -- Assumes nothing.
-use Rattle.std.specs.Prelude.{◌≡◌, Bool, true, false, List, [], ◌∷◌, ◌++◌, map, ℕ, ◌+◌, ◌-◌, ◌^◌, ◌<◌, length, take, drop, set, replicate, leb, eqb}
+use Rattle.std.specs.Prelude.{◌≡◌, Bool, true, false, List, [], ◌∷◌, ◌++◌, map, ℕ, ◌+◌, ◌-◌, ◌^◌, ◌<◌, length, take, drop, set, replicate, leb, eqb, None}
 use Rattle.checkword.specs.Bytes.{number, bytes_of}
 use Rattle.ground.specs.Choice.{pick, all}
 use Rattle.telegram.specs.Levels.{word_length}
@@ -20,7 +20,6 @@ use Rattle.link.specs.Records.{end_of, fresh_of, become, closed_by}
 use Rattle.link.specs.Table.{Incorrect-rcv-1st}
 use Rattle.link.specs.Judged.{row_of, ruled, narrowed, checked_by, back, good_number, expected_now, run_out, run_out_verdict, judged, ticked}
 use Rattle.link.specs.Steps.{declared_by, act_of, act_out, unless_step, unless_out, received_refusal, tick_refusal}
-use Rattle.link.specs.Facts.{none_named}
 use Rattle.link.specs.declared.Record.{Record}
 use Rattle.link.specs.declared.Step.{Step}
 use Rattle.link.specs.declared.Event.{Event}
@@ -233,7 +232,7 @@ NumberingByOurNumberIsOurs =
 -- What two nodes say that have the same link and set up a connection, from SAP 4 to SAP 3 at level 2: both are open. Some links below do so, and are wrong all
 -- the same, as ours would not understand them.
 abbrev pub giving : ℕ → Given
-giving random = record { time = 0; out = replicate 244 0; random = random; idle_time = none_named 0; net = [] }
+giving random = record { time = 0; out = replicate 244 0; random = random; idle_time = None; net = [] }
 
 abbrev pub closed_two : Parties
 closed_two =
