@@ -181,7 +181,7 @@ partners_time_is_shut_out d =
     omega arith
 
 pub wrong_idle_times_are_shut_out : WrongIdleTimesAreShutOut
-unfolding good_idle pick
+unfolding good_idle declared_by pick
 wrong_idle_times_are_shut_out =
     record {
       declaring_by_our_rule_is_ours = declaring_by_our_rule_is_ours;
