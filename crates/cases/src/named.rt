@@ -1,11 +1,10 @@
 // The idle time of an opening and of a confirm: not named, named 0, named 1000, and one that is no multiple of 100.
 use crate::made::{in_phase, telegram_for};
 use crate::run::{opens, takes_lent};
-use link::IdleTime;
 use std::io;
 use std::io::Write;
 
-fn opening(to: &mut impl Write, name: &[u8], level: u32, idle: IdleTime) -> io::Result<()> {
+fn opening(to: &mut impl Write, name: &[u8], level: u32, idle: Option<u32>) -> io::Result<()> {
     let mut out = [0u8; 244];
     opens(
         to,
@@ -19,7 +18,7 @@ fn opening(to: &mut impl Write, name: &[u8], level: u32, idle: IdleTime) -> io::
 }
 
 // A request of node 1's, confirmed by node 8.
-fn confirming(to: &mut impl Write, name: &[u8], level: u32, idle: IdleTime) -> io::Result<()> {
+fn confirming(to: &mut impl Write, name: &[u8], level: u32, idle: Option<u32>) -> io::Result<()> {
     let mut request = [0u8; 244];
     let mut out = [0u8; 244];
     let side = in_phase(level, link::CLOSED);

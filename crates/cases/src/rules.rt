@@ -1,7 +1,6 @@
 // Rules that are easy to miss.
 use crate::made::{in_phase, partner, telegram_for};
 use crate::run::{closes, sends, takes, takes_lent};
-use link::IdleTime;
 use std::io;
 use std::io::Write;
 
@@ -10,7 +9,7 @@ fn lent(
     to: &mut impl Write,
     name: &[u8],
     level: u32,
-    idle: IdleTime,
+    idle: Option<u32>,
     net: &[u8],
 ) -> io::Result<()> {
     let mut telegram = [0u8; 244];

@@ -1,6 +1,6 @@
 // The five steps, each run and shown as a line.
 use crate::show::line;
-use link::{IdleTime, Record, Step};
+use link::{Record, Step};
 use std::io;
 use std::io::Write;
 
@@ -32,7 +32,7 @@ pub(crate) fn opens(
     name: &[u8],
     side: Side,
     time: u64,
-    idle: IdleTime,
+    idle: Option<u32>,
     out: &mut [u8],
 ) -> io::Result<Side> {
     let record = side.record;
@@ -85,7 +85,7 @@ pub(crate) fn takes_lent(
     name: &[u8],
     side: Side,
     time: u64,
-    idle: IdleTime,
+    idle: Option<u32>,
     net: &[u8],
     run: &[u8],
     length: u32,

@@ -6,7 +6,7 @@ ghost use Rattle.node.specs.Calls.{called};
 ghost use Rattle.node.specs.Calls.Call.{Open, Close, Send, Received, Tick};
 
 use crate::Left;
-use link::{IdleTime, Record};
+use link::Record;
 use node::{Head, Route};
 
 // Opens the connection at a place.
@@ -17,7 +17,7 @@ pub(crate) fn open_on(
     time: u64,
     place: usize,
     random: u32,
-    idle: IdleTime,
+    idle: Option<u32>,
     net: &[u8],
     out: &mut [u8],
 ) -> Left
@@ -91,7 +91,7 @@ pub(crate) fn received_on(
     time: u64,
     route: Route,
     random: u32,
-    idle: IdleTime,
+    idle: Option<u32>,
     telegram: &[u8],
     net: &[u8],
     out: &mut [u8],
