@@ -1,23 +1,15 @@
 // The check of a received telegram. Addresses and SAPs are the end's and never the frame's; the check word is worked out last, over two runs.
-ghost use Rattle.std.specs.Prelude.{◌≡◌, ◌≤◌, length};
-ghost use Rattle.telegram.specs.Levels.{level_of};
+ghost use Rattle.std.specs.Prelude.{◌≡◌, ◌≤◌, length, MatchResult};
 ghost use Rattle.telegram.specs.Layout.{values};
 ghost use Rattle.telegram.specs.Values.{good_fields};
-ghost use Rattle.telegram.specs.Check.{same_level, number_used, word_agrees, clauses, first_failing, check_of, answer_number};
+ghost use Rattle.telegram.specs.Check.{number_used, word_agrees, clauses, first_failing, Passes, Failed, check_of, answer_number};
 
 use crate::numbers::number_of;
 use ground::{byte, number_at1, number_at2, number_at4};
 use telegram::{
-    Check, Clause, End, Kind, good_dual_bus, good_idle, good_type, in_range, is_known, kind_of,
-    length_suits, level_of, on_bus, receiving_bytes, word_length, word_of,
+    Check, Clause, End, Kind, Refusal, Unfit, good_dual_bus, good_idle, good_type, in_range,
+    is_known, kind_of, length_suits, level_of, on_bus, receiving_bytes, word_length, word_of,
 };
-
-// Whether a command is of the level.
-fn of_level(command: u8, level: u32) -> bool
-    ensures { result ≡ same_level (level_of command) level }
-{
-    level_of(command) == Some(level)
-}
 
 // The number that a telegram is checked with: its own random number for request and confirm, else the expected one.
 fn number_used(kind: Kind, expected: u32, t: &[u8]) -> u32
@@ -63,32 +55,32 @@ fn word_agrees(end: End, used: u32, t: &[u8]) -> bool
 
 // The first clause that fails, of a telegram that the bus can carry.
 #[tactic(auto, using(ground::specs::Choice::tests))]
-fn first_failing(end: End, expected: u32, t: &[u8]) -> Check
+fn first_failing(end: End, expected: u32, t: &[u8]) -> Result<(), Clause>
     requires { 6 ≤ length t.now }
-    ensures { result ≡ first_failing (clauses end expected t.now) }
+    ensures { MatchResult result (λ _. first_failing (clauses end expected t.now) ≡ Passes) (λ clause. first_failing (clauses end expected t.now) ≡ Failed clause) }
 {
     let command = byte(t, 1);
-    if !of_level(command, end.level) {
-        return Check::Failed(Clause::Level);
+    if level_of(command) != Some(end.level) {
+        return Err(Clause::Level);
     }
     let kind = kind_of((command % 64) as u32);
     if !is_known(kind) {
-        return Check::Failed(Clause::Command);
+        return Err(Clause::Command);
     }
     if !length_suits(kind, end.level, t.len()) {
-        return Check::Failed(Clause::Length);
+        return Err(Clause::Length);
     }
     let used = number_used(kind, expected, t);
     if byte(t, 0) as u32 != used % 256 {
-        return Check::Failed(Clause::Number);
+        return Err(Clause::Number);
     }
     if !fields_in_range(kind, t) {
-        return Check::Failed(Clause::Fields);
+        return Err(Clause::Fields);
     }
     if word_agrees(end, used, t) {
-        Check::Passes
+        Ok(())
     } else {
-        Check::Failed(Clause::Word)
+        Err(Clause::Word)
     }
 }
 
@@ -98,12 +90,12 @@ pub fn checked(end: End, expected: u32, telegram: &[u8]) -> Check
     ensures { result ≡ check_of end expected telegram.now }
 {
     if !in_range(end) {
-        return Check::Refused(1);
+        return Err(Unfit::Refused(Refusal::OutOfRange));
     }
     if !on_bus(telegram.len()) {
-        return Check::Refused(6);
+        return Err(Unfit::Refused(Refusal::BadTelegram));
     }
-    first_failing(end, expected, telegram)
+    first_failing(end, expected, telegram).map_err(Unfit::Failed)
 }
 
 // The number that says what the check found: 0 passes, 1 and 6 refused, 100 failed.
@@ -111,8 +103,8 @@ pub fn answer_number(check: Check) -> u32
     ensures { result ≡ answer_number check }
 {
     match check {
-        Check::Passes => 0,
-        Check::Failed(_) => 100,
-        Check::Refused(n) => n,
+        Ok(()) => 0,
+        Err(Unfit::Failed(_)) => 100,
+        Err(Unfit::Refused(refusal)) => refusal as u32,
     }
 }

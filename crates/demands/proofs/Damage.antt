@@ -19,11 +19,9 @@ use Rattle.telegram.specs.Commands.{kind_of_command, known}
 use Rattle.telegram.specs.Layout.{on_bus, suits, values}
 use Rattle.telegram.specs.Ends.{receiving}
 use Rattle.telegram.specs.Values.{good_fields}
-use Rattle.telegram.specs.Check.{command_of, same_level, used_for, covered, word_agrees, check_of}
+use Rattle.telegram.specs.Check.{command_of, same_level, used_for, covered, word_agrees, check_of, Check, Passes, Failed}
 use Rattle.telegram.specs.declared.End.{End}
 use Rattle.telegram.specs.declared.Clause.TheVariants as clause
-use Rattle.telegram.specs.declared.Check.{Check}
-use Rattle.telegram.specs.declared.Check.TheVariants.{Passes, Failed}
 use Rattle.telegram.proofs.Widths.{width_is, word_some, six, generator_good}
 use Rattle.telegram.proofs.Refusals.{suits_room}
 use Rattle.telegram.proofs.Apart.{Passed, passed, whole, whole_bytes, came, within_all, within_append, within_cons, expected_used}

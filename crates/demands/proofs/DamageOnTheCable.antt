@@ -15,14 +15,12 @@ use Rattle.ground.specs.Choice.{pick}
 use Rattle.telegram.specs.Levels.{word_length}
 use Rattle.telegram.specs.Commands.{kind_of_command}
 use Rattle.telegram.specs.Ends.{mirrored}
-use Rattle.telegram.specs.Check.{command_of, check_of}
+use Rattle.telegram.specs.Check.{command_of, check_of, Check, Passes, Failed}
 use Rattle.telegram.specs.declared.End.{End}
 use Rattle.telegram.specs.declared.Kind.{Kind}
 use Rattle.telegram.specs.declared.Kind.TheVariants.{Request, Confirm, Authentication, Acknowledgement, Disconnect, Idle, Data, Unknown}
 use Rattle.telegram.specs.declared.Clause.{Clause}
 use Rattle.telegram.specs.declared.Clause.TheVariants as clause
-use Rattle.telegram.specs.declared.Check.{Check}
-use Rattle.telegram.specs.declared.Check.TheVariants.{Passes, Failed}
 use Rattle.telegram.proofs.Widths.{width_is}
 use Rattle.link.specs.Records.{end_of}
 use Rattle.link.specs.Judged.{expected_now}

@@ -25,10 +25,9 @@ use Rattle.telegram.specs.Levels.{width, word_length, generator}
 use Rattle.ground.specs.Numbers.{lowest_first}
 use Rattle.telegram.specs.Values.{good_idle}
 use Rattle.telegram.specs.Ends.{is_level, implicit, receiving}
-use Rattle.telegram.specs.Check.{used_for, check_of}
+use Rattle.telegram.specs.Check.{used_for, check_of, Passes}
 use Rattle.telegram.specs.declared.End.{End}
 use Rattle.telegram.specs.declared.Kind.TheVariants.{Request, Confirm}
-use Rattle.telegram.specs.declared.Check.TheVariants.{Passes}
 use Rattle.telegram.proofs.Widths.{width_is, word_small, four}
 use Rattle.telegram.proofs.Refusals.{both_true, suits_room}
 use Rattle.telegram.proofs.Taken.{level_there}

@@ -11,6 +11,7 @@ use borrow.Author.Tests.{eq-eqb, eqb-false, ne_eqb, le-leb, le-ltb, lt-ltb}
 use Rattle.std.specs.Prelude.{Option}
 use Rattle.checkword.specs.Bytes.{Bytes}
 use Rattle.ground.specs.Choice.{pick}
+use Rattle.std.specs.Prelude.{Ok, Err}
 use Rattle.telegram.specs.Ends.{mirrored}
 use Rattle.telegram.specs.Levels.{top_bits}
 use Rattle.telegram.specs.Fields.{low_of}
@@ -18,14 +19,12 @@ use Rattle.telegram.specs.Commands.{kind_of_command}
 use Rattle.telegram.specs.Telegrams.{body, sealed, telegram, data_telegram, idle, disconnect}
 use Rattle.telegram.specs.Writers.Outcome.{wrote}
 use Rattle.telegram.specs.Writers.{refusal, connect_allowed, data_allowed, writes_data, writes_idle, writes_disconnect}
-use Rattle.telegram.specs.Check.{command_of, check_of}
+use Rattle.telegram.specs.Check.{command_of, check_of, Check, Passes}
 use Rattle.telegram.specs.Layout.{longest, on_bus}
 use Rattle.telegram.specs.Facts.{Taken}
 use Rattle.telegram.specs.declared.End.{End}
 use Rattle.telegram.specs.declared.Kind.{Kind}
 use Rattle.telegram.specs.declared.Kind.TheVariants as kind
-use Rattle.telegram.specs.declared.Check.{Check}
-use Rattle.telegram.specs.declared.Check.TheVariants.{Passes, Failed, Refused}
 use Rattle.telegram.proofs.Refusals.{clear, data_command, data_small}
 use Rattle.telegram.proofs.Apart.{passed as passed-check}
 use Rattle.telegram.proofs.Taken.{data_taken, idle_taken, disconnect_taken}
@@ -348,9 +347,8 @@ unfolding judged pick
 failing_closes r own time t p early fails = rw (open_in_time r time p early, expects r 5 p (omega arith)) (by (check_of (end_of r own) r.expected t) refl)
   where
     by : (c : Check) → check_of (end_of r own) r.expected t ≡ c → checked_by c r t ≡ Closes 0x06 false
-    by Passes e = absurd (fails e)
-    by (Failed c) e = ap (ruled Incorrect-rcv-1st) p
-    by (Refused n) e = ap (ruled Incorrect-rcv-1st) p
+    by (Ok done) e = absurd (fails e)
+    by (Err why) e = ap (ruled Incorrect-rcv-1st) p
 
 -- What a call for an open record writes
 
@@ -379,9 +377,8 @@ open_judged r own time t p = by (run_out r time) (check_of (end_of r own) (expec
 
     by : (b : Bool) (c : Check) → OpenVerdict (pick b (run_out_verdict r.phase) (checked_by c r t))
     by true c = in_phase run_out_verdict (closes_it 0x05 false refl)
-    by false Passes = in_phase (λ (y : ℕ). narrowed (ruled (row_of (kind_of_command (command_of t))) y) r t) (narrowed_open (kind_of_command (command_of t)) r t)
-    by false (Failed c) = in_phase (ruled Incorrect-rcv-1st) (closes_it 0x06 false refl)
-    by false (Refused n) = in_phase (ruled Incorrect-rcv-1st) (closes_it 0x06 false refl)
+    by false (Ok done) = in_phase (λ (y : ℕ). narrowed (ruled (row_of (kind_of_command (command_of t))) y) r t) (narrowed_open (kind_of_command (command_of t)) r t)
+    by false (Err why) = in_phase (ruled Incorrect-rcv-1st) (closes_it 0x06 false refl)
 
 -- a tick closes, writes an idle telegram, or nothing
 data OpenTick (v : Verdict) : Type 0 where

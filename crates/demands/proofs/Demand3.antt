@@ -9,10 +9,9 @@ use Prim.Native.Nat.{ℕ}
 use borrow.Author.Tests.{eq-eqb}
 use Rattle.telegram.specs.Ends.{mirrored}
 use Rattle.telegram.specs.Facts.{OtherPartner}
-use Rattle.telegram.specs.Check.{check_of}
+use Rattle.telegram.specs.Check.{check_of, Passes}
 use Rattle.telegram.specs.declared.End.{End}
 use Rattle.telegram.specs.declared.Kind.TheVariants.{Authentication, Acknowledgement}
-use Rattle.telegram.specs.declared.Check.TheVariants.{Passes}
 use Rattle.telegram.proofs.Apart.{level_apart, apart_at_4, apart_at_2, connect_apart, one_number}
 use Rattle.telegram.proofs.Taken.{request_taken, confirm_taken, authentication_taken, acknowledgement_taken, disconnect_taken, idle_taken, data_taken}
 use Rattle.link.specs.Records.{end_of}

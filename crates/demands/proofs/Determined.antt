@@ -10,14 +10,13 @@ use native.Mathlib.Omega.{arith}
 use lib.ListN.{length}
 use lib.Dec.{ltb, eqb}
 use borrow.Author.Tests.{eqb-true, eqb-false, ltb-true, ltb-false}
+use Rattle.std.specs.Prelude.{Ok, Err}
 use Rattle.telegram.specs.Fields.{authentication_of}
 use Rattle.telegram.specs.Commands.{known}
 use Rattle.telegram.specs.Telegrams.{authentication_number}
-use Rattle.telegram.specs.Check.{check_of}
+use Rattle.telegram.specs.Check.{check_of, Check, Passes}
 use Rattle.telegram.specs.declared.Kind.{Kind}
 use Rattle.telegram.specs.declared.Kind.TheVariants as kind
-use Rattle.telegram.specs.declared.Check.{Check}
-use Rattle.telegram.specs.declared.Check.TheVariants.{Passes, Failed, Refused}
 use Rattle.link.specs.Records.{end_of}
 use Rattle.link.specs.Judged.{back, good_version, expected_now}
 use Rattle.link.specs.Steps.{received_refusal, tick_refusal}
@@ -63,9 +62,8 @@ later m n = by (ltb m n) refl
     by false f = inr (ltb-false m n f)
 
 passes_or_not : (c : Check) → EitherWay (c ≡ Passes)
-passes_or_not Passes = inl refl
-passes_or_not (Failed c) = inr (λ e. let z : ◌≡◌ {A = ℕ} 0 1 = cc in omega arith)
-passes_or_not (Refused n) = inr (λ e. let z : ◌≡◌ {A = ℕ} 0 1 = cc in omega arith)
+passes_or_not (Ok done) = inl refl
+passes_or_not (Err why) = inr (λ e. let z : ◌≡◌ {A = ℕ} 0 1 = cc in omega arith)
 
 true_or_false : (b : Bool) → (b ≡ true) ⊎ (b ≡ false)
 true_or_false true = inl refl

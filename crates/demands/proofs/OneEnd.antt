@@ -10,14 +10,13 @@ use native.Mathlib.Omega.{arith}
 use lib.Dec.{ltb, eqb}
 use borrow.Author.Tests.{eq-eqb, ne_eqb, eqb-true, eqb-false, le-leb, ltb-true, ltb-false, lt-ltb}
 use Rattle.ground.specs.Choice.{pick}
+use Rattle.std.specs.Prelude.{Ok, Err}
 use Rattle.telegram.specs.Fields.{authentication_of}
 use Rattle.telegram.specs.Commands.{kind_of_command, known}
 use Rattle.telegram.specs.Telegrams.{authentication_number}
-use Rattle.telegram.specs.Check.{command_of, check_of}
+use Rattle.telegram.specs.Check.{command_of, check_of, Check, Passes}
 use Rattle.telegram.specs.declared.Kind.{Kind}
 use Rattle.telegram.specs.declared.Kind.TheVariants as kind
-use Rattle.telegram.specs.declared.Check.{Check}
-use Rattle.telegram.specs.declared.Check.TheVariants.{Passes, Failed, Refused}
 use Rattle.telegram.proofs.Apart.{passed as passed-check}
 use Rattle.link.specs.Records.{end_of}
 use Rattle.link.specs.Table.{Timeout-brk, Timeout-snd, Incorrect-rcv-1st}
@@ -141,9 +140,8 @@ unfolding judged pick
 failing_row r own time t in_time fails = rw in_time (by (check_of (end_of r own) (expected_now r) t) refl)
   where
     by : (c : Check) → check_of (end_of r own) (expected_now r) t ≡ c → checked_by c r t ≡ ruled Incorrect-rcv-1st r.phase
-    by Passes e = absurd (fails e)
-    by (Failed c) e = refl
-    by (Refused n) e = refl
+    by (Ok done) e = absurd (fails e)
+    by (Err why) e = refl
 
 -- a telegram that passes is of a kind that there is
 pub kind_known : (x : Receipt) → Passing x → known (kind_of x) ≡ true
@@ -182,10 +180,9 @@ when_closed =
     dropped x p bad = rw (closed_in_time (record_for x) x.time p) (by (check_of (end_of (record_for x) x.head.own) (expected_now (record_for x)) x.telegram) refl)
       where
         by : (c : Check) → check_of (end_of (record_for x) x.head.own) (expected_now (record_for x)) x.telegram ≡ c → checked_by c (record_for x) x.telegram ≡ Nothing
-        by Passes e =
+        by (Ok done) e =
             rw p (closed_row (kind_of x) (record_for x) x.telegram (λ k. not-true (good_version x.telegram) (λ v. bad (record { passes = e; kind = k; version = v }))))
-        by (Failed c) e = ap (ruled Incorrect-rcv-1st) p
-        by (Refused n) e = ap (ruled Incorrect-rcv-1st) p
+        by (Err why) e = ap (ruled Incorrect-rcv-1st) p
 
 -- A confirm awaited
 
@@ -430,9 +427,8 @@ module _ (x : ℕ) (low : 1 ≤ x) (high : x ≤ 2) where
       by : (b : Bool) → run_out r time ≡ b → (c : Check) → check_of (end_of r own) (expected_now r) t ≡ c → event_of (pick b (run_out_verdict r.phase) (checked_by c r t)) ≡ x
           → ByATelegram x r own time t
       by true out c e z = absurd (run_out_tells r.phase l h z)
-      by false out (Failed y) e z = absurd (incorrect_tells r.phase l h z)
-      by false out (Refused y) e z = absurd (incorrect_tells r.phase l h z)
-      by false out Passes e z = record { in_time = out; passes = e; cell = z }
+      by false out (Err why) e z = absurd (incorrect_tells r.phase l h z)
+      by false out (Ok done) e z = record { in_time = out; passes = e; cell = z }
 
   done_tells : (c : Call) (h : Head) (t : List Record) (time : ℕ) (d : List ℕ) → Done (called c h t time d) → (happened (called c h t time d).outcome.event).event ≡ x → Tells x c h t time
   unfolding received_refusal tick_refusal

@@ -23,11 +23,10 @@ use Rattle.telegram.specs.Layout.{sum, layout, header, most, field_bytes, fields
 use Rattle.telegram.specs.Ends.{is_level, in_range, receiving, mirrored}
 use Rattle.telegram.specs.Values.{good_idle, good_type, good_dual_bus, good_fields}
 use Rattle.telegram.specs.Telegrams.{check_word, body, sealed, telegram}
-use Rattle.telegram.specs.Check.{command_of, same_level, number_used, used_for, covered, word_agrees, check_of}
+use Rattle.telegram.specs.Check.{command_of, same_level, number_used, used_for, covered, word_agrees, check_of, Passes}
 use Rattle.telegram.specs.declared.End.{End}
 use Rattle.telegram.specs.declared.Kind.{Kind}
 use Rattle.telegram.specs.declared.Kind.TheVariants.{Request, Confirm, Authentication, Acknowledgement, Disconnect, Idle, Data, Unknown}
-use Rattle.telegram.specs.declared.Check.TheVariants.{Passes}
 use Rattle.telegram.proofs.Refusals.{both_true, both_are, either_true, suits_room, data_small, data_kind}
 use Rattle.telegram.proofs.Widths.{word_small}
 use Rattle.telegram.proofs.ReadBack.{Fit}

@@ -13,9 +13,8 @@ use Rattle.ground.specs.Choice.{pick}
 use Rattle.telegram.specs.Commands.{kind_of_command}
 use Rattle.telegram.specs.Writers.{answer_of, left_by, unless}
 use Rattle.telegram.specs.Writers.Outcome.{wrote}
-use Rattle.telegram.specs.Check.{command_of, check_of}
+use Rattle.telegram.specs.Check.{command_of, check_of, Passes}
 use Rattle.telegram.specs.declared.Kind.{Kind}
-use Rattle.telegram.specs.declared.Check.TheVariants.{Passes}
 use Rattle.link.specs.Records.{end_of}
 use Rattle.link.specs.Times.{watch_over}
 use Rattle.link.specs.Judged.{row_of, ruled, narrowed, expected_now, run_out, judged}

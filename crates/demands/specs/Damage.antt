@@ -8,11 +8,9 @@ use Rattle.checkword.specs.Word.{Agrees}
 use Rattle.telegram.specs.Levels.{width, word_length}
 use Rattle.telegram.specs.Commands.{kind_of_command}
 use Rattle.telegram.specs.Ends.{mirrored}
-use Rattle.telegram.specs.Check.{command_of, covered, check_of}
+use Rattle.telegram.specs.Check.{command_of, covered, check_of, Check, Passes, Failed}
 use Rattle.telegram.specs.declared.Kind.TheVariants.{Request, Confirm}
 use Rattle.telegram.specs.declared.Clause.TheVariants as clause
-use Rattle.telegram.specs.declared.Check.{Check}
-use Rattle.telegram.specs.declared.Check.TheVariants.{Passes, Failed}
 use Rattle.link.specs.Records.{end_of}
 use Rattle.link.specs.Judged.{expected_now}
 use Rattle.link.specs.declared.Record.{Record}

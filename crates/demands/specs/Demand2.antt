@@ -3,8 +3,7 @@
 use Rattle.std.specs.Prelude.{◌≡◌, Bool, true, false, List, [], ℕ, ◌+◌, ◌<◌, length, eqb, Option}
 use Rattle.checkword.specs.Bytes.{Bytes}
 use Rattle.telegram.specs.Writers.{data_allowed, disconnect_allowed}
-use Rattle.telegram.specs.Check.{check_of}
-use Rattle.telegram.specs.declared.Check.TheVariants.{Passes}
+use Rattle.telegram.specs.Check.{check_of, Passes}
 use Rattle.link.specs.Records.{end_of}
 use Rattle.link.specs.Plain.{happened}
 use Rattle.link.specs.declared.Record.{Record}

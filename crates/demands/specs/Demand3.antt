@@ -8,11 +8,9 @@ use Rattle.telegram.specs.Commands.{kind_of_command}
 use Rattle.telegram.specs.Ends.{in_range, receiving, mirrored}
 use Rattle.telegram.specs.Writers.{writes_request, writes_confirm, writes_authentication, writes_acknowledgement, writes_disconnect, writes_idle, writes_data}
 use Rattle.telegram.specs.Writers.Outcome.{wrote}
-use Rattle.telegram.specs.Check.{command_of, used_for}
+use Rattle.telegram.specs.Check.{command_of, used_for, Check, Passes}
 use Rattle.telegram.specs.declared.End.{End}
 use Rattle.telegram.specs.declared.Kind.TheVariants.{Request, Confirm}
-use Rattle.telegram.specs.declared.Check.{Check}
-use Rattle.telegram.specs.declared.Check.TheVariants.{Passes}
 use Rattle.link.specs.Records.{end_of}
 use Rattle.link.specs.declared.Record.{Record}
 use Rattle.link.specs.Plain.{happened}

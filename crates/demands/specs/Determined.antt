@@ -4,9 +4,8 @@
 -- Assumes nothing.
 use Rattle.std.specs.Prelude.{◌≡◌, List, ℕ}
 use Rattle.checkword.specs.Bytes.{Bytes}
-use Rattle.telegram.specs.Check.{check_of}
+use Rattle.telegram.specs.Check.{check_of, Passes}
 use Rattle.telegram.specs.declared.End.{End}
-use Rattle.telegram.specs.declared.Check.TheVariants.{Passes}
 use Rattle.link.specs.declared.Record.{Record}
 use Rattle.node.specs.declared.Head.{Head}
 use Rattle.node.specs.Calls.{Call, Link, called}

@@ -7,9 +7,8 @@ use Rattle.telegram.specs.Fields.{random_of, idle_time_of, low_of}
 use Rattle.telegram.specs.NetData.{net_part}
 use Rattle.telegram.specs.Commands.{kind_of_command}
 use Rattle.telegram.specs.Telegrams.{request, confirm, authentication, acknowledgement, disconnect, idle, data_telegram}
-use Rattle.telegram.specs.Check.{command_of, check_of}
+use Rattle.telegram.specs.Check.{command_of, check_of, Passes}
 use Rattle.telegram.specs.declared.Kind.{Kind}
-use Rattle.telegram.specs.declared.Check.TheVariants.{Passes}
 use Rattle.link.specs.Records.{end_of, become, closed_by}
 use Rattle.link.specs.Judged.{back, expected_now}
 use Rattle.link.specs.Steps.{next}

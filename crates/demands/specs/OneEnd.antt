@@ -6,10 +6,9 @@ use Rattle.std.specs.Prelude.{◌≡◌, Bool, true, false, List, [], ◌⊎◌,
 use Rattle.telegram.specs.Fields.{authentication_of, type_of, reason_of}
 use Rattle.telegram.specs.Commands.{kind_of_command}
 use Rattle.telegram.specs.Telegrams.{authentication_number}
-use Rattle.telegram.specs.Check.{command_of, check_of}
+use Rattle.telegram.specs.Check.{command_of, check_of, Passes}
 use Rattle.telegram.specs.declared.Kind.{Kind}
 use Rattle.telegram.specs.declared.Kind.TheVariants.{Request, Confirm, Authentication, Acknowledgement, Disconnect, Idle, Data}
-use Rattle.telegram.specs.declared.Check.TheVariants.{Passes}
 use Rattle.link.specs.Records.{end_of}
 use Rattle.link.specs.Judged.{back, good_version}
 use Rattle.link.specs.Steps.{declared_by}

@@ -18,13 +18,12 @@ use Rattle.telegram.specs.Ends.{in_range, sending, receiving}
 use Rattle.telegram.specs.Telegrams.{check_word, authentication_number}
 use Rattle.telegram.specs.Values.{good_idle, good_type, listed_reason, good_dual_bus}
 use Rattle.telegram.specs.Writers.{answer_of, left_by, connect_allowed, disconnect_allowed, data_allowed, writes_request, writes_confirm, writes_authentication, writes_acknowledgement, writes_disconnect, writes_idle, writes_data}
-use Rattle.telegram.specs.Check.{command_of, check_of, answer_number}
+use Rattle.telegram.specs.Check.{command_of, check_of, answer_number, Check}
 use Rattle.telegram.specs.NetData.{net_part, net_data}
 use Rattle.telegram.specs.Fields.{random_of, idle_time_of, version_x_of, version_y_of, authentication_of, type_of, reason_of, low_of}
 use Rattle.telegram.specs.declared.End.{End}
 use Rattle.telegram.specs.declared.Kind.{Kind}
 use Rattle.telegram.specs.declared.Written.{Written}
-use Rattle.telegram.specs.declared.Check.{Check}
 use Rattle.telegram.specs.declared.Part.{Part}
 use Rattle.link.specs.Records.{record_in_range, fresh_of}
 use Rattle.link.specs.Steps.{open_of, open_out, close_of, close_out, send_of, send_out, received_of, received_out, tick_of, tick_out}

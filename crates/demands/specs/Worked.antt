@@ -11,12 +11,11 @@ use Rattle.telegram.specs.Telegrams.{telegram, authentication_number, idle, data
 use Rattle.telegram.specs.Values.{good_idle}
 use Rattle.telegram.specs.Writers.{answer_of, writes_request, writes_confirm, writes_idle, writes_data}
 use Rattle.telegram.specs.Writers.Outcome.{wrote}
-use Rattle.telegram.specs.Check.{command_of, same_level, check_of}
+use Rattle.telegram.specs.Check.{command_of, same_level, check_of, Passes, Failed}
 use Rattle.telegram.specs.declared.End.{End}
 use Rattle.telegram.specs.declared.Kind.TheVariants.{Request, Data, Unknown}
 use Rattle.telegram.specs.declared.Clause.{Clause}
 use Rattle.telegram.specs.declared.Clause.TheVariants as clause
-use Rattle.telegram.specs.declared.Check.TheVariants.{Passes, Failed}
 use Rattle.link.specs.Records.{record_in_range}
 use Rattle.link.specs.Steps.{open_of}
 use Rattle.link.specs.declared.Record.{Record}

@@ -3,18 +3,17 @@
 -- Assumes nothing.
 use Rattle.std.proofs.Common.{◌≡◌, ℕ, ◌≤◌, Bool, true, false, eqb, leb, List, [], ◌∷◌, length, refl, arith, ne_eqb, eqb-true, le-leb}
 use Rattle.ground.specs.Choice.{pick, all}
+use Rattle.std.specs.Prelude.{Ok, Err}
 use Rattle.telegram.specs.Ends.{in_range}
 use Rattle.telegram.specs.Values.{good_idle, good_fields}
 use Rattle.telegram.specs.Layout.{values}
 use Rattle.telegram.specs.Commands.{kind_of_command}
 use Rattle.telegram.specs.Fields.{idle_time_of}
 use Rattle.telegram.specs.Writers.{connect_allowed}
-use Rattle.telegram.specs.Check.{command_of, check_of}
+use Rattle.telegram.specs.Check.{command_of, check_of, Check}
 use Rattle.telegram.specs.declared.Written.{Written}
 use Rattle.telegram.specs.declared.Kind.{Kind}
 use Rattle.telegram.specs.declared.Kind.TheVariants as kind
-use Rattle.telegram.specs.declared.Check.{Check}
-use Rattle.telegram.specs.declared.Check.TheVariants.{Passes, Failed, Refused}
 use Rattle.telegram.proofs.Refusals.{both_true, both_are}
 use Rattle.telegram.proofs.Apart.{passed}
 use Rattle.link.proofs.Cases.{live_phase, phases}
@@ -159,9 +158,8 @@ incorrect_stores p l h = phases (λ (q : ℕ). stores (ruled Incorrect-rcv-1st q
 by_check : (c : Check) (r : Record) (own : ℕ) (t : List ℕ) → check_of (end_of r own) (expected_now r) t ≡ c → 1 ≤ r.phase → r.phase ≤ 5
     → stores (checked_by c r t) ≡ true → good_idle (idle_time_of t) ≡ true
 unfolding passed-kind
-by_check Passes r own t e l h s = by_kind (kind_of_command (command_of t)) r.phase r t l h (passed (end_of r own) (expected_now r) t e).good_fields_holds s
-by_check (Failed c) r own t e l h s = not_both _ (incorrect_stores r.phase l h) s
-by_check (Refused n) r own t e l h s = not_both _ (incorrect_stores r.phase l h) s
+by_check (Ok done) r own t e l h s = by_kind (kind_of_command (command_of t)) r.phase r t l h (passed (end_of r own) (expected_now r) t e).good_fields_holds s
+by_check (Err why) r own t e l h s = not_both _ (incorrect_stores r.phase l h) s
 
 stored : (r : Record) (own time : ℕ) (t : List ℕ) → 1 ≤ r.phase → r.phase ≤ 5 → stores (judged r own time t) ≡ true → good_idle (idle_time_of t) ≡ true
 unfolding judged pick

@@ -3,18 +3,17 @@
 -- Assumes nothing.
 use Rattle.std.proofs.Common.{◌≡◌, ℕ, ◌≤◌, Bool, true, false, eqb, leb, List, [], length, sym, refl, ◌∙◌, arith, eqb-true, le-leb}
 use Rattle.ground.specs.Choice.{pick}
+use Rattle.std.specs.Prelude.{Ok, Err}
 use Rattle.telegram.specs.Ends.{in_range}
 use Rattle.telegram.specs.Values.{good_idle, good_type, listed_reason}
 use Rattle.telegram.specs.Layout.{longest, most}
 use Rattle.telegram.specs.Commands.{kind_of_command}
 use Rattle.telegram.specs.Writers.{refusal, unless, answer_of, connect_allowed, disconnect_allowed, writes_request, writes_confirm, writes_authentication, writes_acknowledgement, writes_disconnect, writes_idle, writes_data}
-use Rattle.telegram.specs.Check.{command_of, check_of}
+use Rattle.telegram.specs.Check.{command_of, check_of, Check}
 use Rattle.telegram.specs.declared.Written.{Written}
 use Rattle.telegram.specs.declared.End.{End}
 use Rattle.telegram.specs.declared.Kind.{Kind}
 use Rattle.telegram.specs.declared.Kind.TheVariants as kind
-use Rattle.telegram.specs.declared.Check.{Check}
-use Rattle.telegram.specs.declared.Check.TheVariants.{Passes, Failed, Refused}
 use Rattle.telegram.proofs.Refusals.{both_are}
 use Rattle.link.proofs.Cases.{live_phase, phases, either}
 use Rattle.link.proofs.Accepted.{parts}
@@ -134,9 +133,8 @@ run_out_lem p l h = phases (λ (q : ℕ). writable (run_out_verdict q) ≡ true)
 
 by_check : (c : Check) (r : Record) (t : List ℕ) → 1 ≤ r.phase → r.phase ≤ 5 → writable (checked_by c r t) ≡ true
 unfolding passed
-by_check Passes r t l h = by_kind (kind_of_command (command_of t)) r.phase r t l h
-by_check (Failed c) r t l h = incorrect r.phase l h
-by_check (Refused n) r t l h = incorrect r.phase l h
+by_check (Ok done) r t l h = by_kind (kind_of_command (command_of t)) r.phase r t l h
+by_check (Err why) r t l h = incorrect r.phase l h
 
 judged_writable : (r : Record) (own time : ℕ) (t : List ℕ) → 1 ≤ r.phase → r.phase ≤ 5 → writable (judged r own time t) ≡ true
 unfolding judged

@@ -2,10 +2,10 @@
 -- Assumes nothing.
 use Rattle.std.proofs.Common.{◌≡◌, ℕ, zero, suc, ◌*◌, ◌<◌, ◌≤◌, Bool, true, false, eqb, leb, List, [], ◌∷◌, sym, refl, ap, ◌∙◌, arith, eq-eqb, ne_eqb, le-leb, leb-true}
 use Rattle.ground.specs.Choice.{pick, all, no}
+use Rattle.telegram.specs.Check.{Check}
 use Rattle.telegram.specs.Ends.{in_range}
 use Rattle.telegram.specs.Values.{good_idle}
 use Rattle.telegram.specs.declared.Kind.{Kind}
-use Rattle.telegram.specs.declared.Check.{Check}
 use Rattle.telegram.proofs.Refusals.{both_true}
 use Rattle.link.specs.Records.{end_of, is_phase, is_closed, at_rest, record_in_range}
 use Rattle.link.specs.Table.{Row, Timeout-snd, Timeout-brk, Incorrect-rcv-1st}

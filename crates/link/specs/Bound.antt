@@ -7,12 +7,11 @@ use Rattle.ground.specs.Choice.{pick, all}
 use Rattle.telegram.specs.Commands.{kind_of_command}
 use Rattle.telegram.specs.Fields.{type_of}
 use Rattle.telegram.specs.Telegrams as telegrams
-use Rattle.telegram.specs.Check.{command_of, check_of}
+use Rattle.telegram.specs.Check.{command_of, check_of, Passes, Failed}
 use Rattle.telegram.specs.declared.End.{End}
 use Rattle.telegram.specs.declared.Kind.{Kind}
 use Rattle.telegram.specs.declared.Kind.TheVariants as kind
 use Rattle.telegram.specs.declared.Clause.{Clause}
-use Rattle.telegram.specs.declared.Check.TheVariants.{Passes, Failed}
 use Rattle.link.specs.Records.{end_of}
 use Rattle.link.specs.Times.{idle_due}
 use Rattle.link.specs.Table.{Action, Next, Cell, Row, ◌⇒◌, reading, f00, f01, f02, f03, f04, f05, f06, f07, f08, f09, f10, f11, f12, f13, stays, idle, wConAck, wAuthReq, wAuthAck, opens, defect, Connect-snd, Data-snd, Timeout-snd, Timeout-rcv, Timeout-brk, Incorrect-rcv-1st, Incorrect-rcv-2nd, Discon-snd, FDiscon-snd}

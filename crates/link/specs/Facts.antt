@@ -9,9 +9,8 @@ use Rattle.telegram.specs.Writers.{left_by, connect_allowed, writes_disconnect}
 use Rattle.telegram.specs.Writers.Outcome.{wrote}
 use Rattle.telegram.specs.Facts.{Taken}
 use Rattle.telegram.specs.declared.Kind.TheVariants.{Request, Disconnect}
-use Rattle.telegram.specs.Check.{command_of, check_of}
+use Rattle.telegram.specs.Check.{command_of, check_of, Passes, Failed}
 use Rattle.telegram.specs.declared.Clause.{Clause}
-use Rattle.telegram.specs.declared.Check.TheVariants.{Passes, Failed}
 use Rattle.link.specs.Records.{end_of, at_rest, record_in_range, closed_by}
 use Rattle.link.specs.Times.{wait_over, watch_over, idle_due}
 use Rattle.link.specs.Table.{Row, cell, reading, otherwise, Timeout-snd, Timeout-rcv, Timeout-brk, Incorrect-rcv-1st}

@@ -3,14 +3,13 @@
 -- Assumes nothing.
 use Rattle.std.specs.Prelude.{ℕ, ◌+◌, ◌-◌, ◌%◌, ◌^◌, Bool, true, false, List, [], ◌∷◌, ◌==◌, nat_le}
 use Rattle.ground.specs.Choice.{pick, all}
+use Rattle.std.specs.Prelude.{Ok, Err}
 use Rattle.telegram.specs.Fields.{version_x_of, version_y_of, authentication_of}
 use Rattle.telegram.specs.Commands.{kind_of_command}
 use Rattle.telegram.specs.Telegrams.{authentication_number}
-use Rattle.telegram.specs.Check.{command_of, check_of}
+use Rattle.telegram.specs.Check.{command_of, check_of, Check}
 use Rattle.telegram.specs.declared.Kind.{Kind}
 use Rattle.telegram.specs.declared.Kind.TheVariants as kind
-use Rattle.telegram.specs.declared.Check.{Check}
-use Rattle.telegram.specs.declared.Check.TheVariants.{Passes, Failed, Refused}
 use Rattle.link.specs.Records.{end_of}
 use Rattle.link.specs.Times.{wait_over, watch_over, idle_due}
 use Rattle.link.specs.Table.{Action, Next, Row, reading, f00, f01, f02, f03, f04, f05, f06, f07, f08, f09, f10, f11, f12, f13, stays, idle, wConAck, wAuthReq, wAuthAck, opens, defect, Connect-snd, Data-snd, Timeout-snd, Timeout-rcv, Timeout-brk, Data-rcv, Idle-rcv, Incorrect-rcv-1st, Incorrect-rcv-2nd, ConReq-rcv, ConAck-rcv, AuthReq-rcv, AuthAck-rcv, Discon-snd, FDiscon-snd, Discon-rcv}
@@ -111,9 +110,8 @@ passed r k t = narrowed (ruled (row_of k) r.phase) r t
 
 -- By what the check found.
 abbrev pub checked_by : Check → Record → List ℕ → Verdict
-checked_by Passes r t = passed r (kind_of_command (command_of t)) t
-checked_by (Failed c) r t = ruled Incorrect-rcv-1st r.phase
-checked_by (Refused n) r t = ruled Incorrect-rcv-1st r.phase
+checked_by (Ok done) r t = passed r (kind_of_command (command_of t)) t
+checked_by (Err why) r t = ruled Incorrect-rcv-1st r.phase
 
 -- The number expected: while nothing is awaited, or a confirm is, 0.
 unfoldable pub expected_now : Record → ℕ

@@ -341,9 +341,8 @@ fn judge_checked(check: Check, record: Record, telegram: &[u8]) -> Verdict
     ensures { result ≡ checked_by check «record» telegram.now }
 {
     match check {
-        Check::Passes => judge_passed(record, telegram),
-        Check::Failed(_) => failed(record.phase),
-        Check::Refused(_) => failed(record.phase),
+        Ok(()) => judge_passed(record, telegram),
+        Err(_) => failed(record.phase),
     }
 }
 

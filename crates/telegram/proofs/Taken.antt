@@ -26,14 +26,13 @@ use Rattle.telegram.specs.Values.{good_idle, good_type, listed_reason, good_dual
 use Rattle.telegram.specs.Telegrams.{check_word, body, sealed, telegram, version_and_bus, authentication_number, request, confirm, authentication, acknowledgement, disconnect, idle, data_telegram}
 use Rattle.telegram.specs.Writers.{refusal, unless, connect_allowed, disconnect_allowed, data_allowed, writes_request, writes_confirm, writes_authentication, writes_acknowledgement, writes_disconnect, writes_idle, writes_data}
 use Rattle.telegram.specs.Writers.Outcome.{wrote}
-use Rattle.telegram.specs.Check.{command_of, same_level, number_used, used_for, word_agrees, check_of}
+use Rattle.telegram.specs.Check.{command_of, same_level, number_used, used_for, word_agrees, check_of, Passes}
 use Rattle.telegram.specs.NetData.{part_of, net_part, net_data}
 use Rattle.telegram.specs.Facts.{Taken, RequestTaken, ConfirmTaken, AuthenticationTaken, AcknowledgementTaken, DisconnectTaken, IdleTaken, DataTaken}
 use Rattle.telegram.specs.declared.End.{End}
 use Rattle.telegram.specs.declared.Kind.{Kind}
 use Rattle.telegram.specs.declared.Kind.TheVariants.{Request, Confirm, Authentication, Acknowledgement, Disconnect, Idle, Data}
 use Rattle.telegram.specs.declared.Part.{Part}
-use Rattle.telegram.specs.declared.Check.TheVariants.{Passes}
 use Rattle.telegram.proofs.Refusals.{both_true, both_are, either_true, clear, data_room, data_command, data_small, data_kind}
 use Rattle.telegram.proofs.Widths.{word_some, width_is, generator_good, top_small}
 use Rattle.telegram.proofs.Cases.{header_some, most_small}

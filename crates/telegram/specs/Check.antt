@@ -1,6 +1,6 @@
 -- The check of a received telegram: the clauses of the scope in their order, and the first of them that fails.
 -- Assumes nothing.
-use Rattle.std.specs.Prelude.{Bool, false, List, [], ◌∷◌, ℕ, ◌-◌, ◌%◌, length, take, drop, get_or, eqb, Option, Some, None}
+use Rattle.std.specs.Prelude.{Bool, false, List, [], ◌∷◌, ℕ, ◌-◌, ◌%◌, length, take, drop, get_or, eqb, Option, Some, None, Result, Ok, Err}
 use Rattle.checkword.specs.Bytes.{number}
 use Rattle.ground.specs.Choice.{pick}
 use Rattle.telegram.specs.Levels.{level_of, word_length}
@@ -14,8 +14,23 @@ use Rattle.telegram.specs.declared.Kind.{Kind}
 use Rattle.telegram.specs.declared.Kind.TheVariants.{Request, Confirm, Authentication, Acknowledgement, Disconnect, Idle, Data, Unknown}
 use Rattle.telegram.specs.declared.Clause.{Clause}
 use Rattle.telegram.specs.declared.Clause.TheVariants as clause
-use Rattle.telegram.specs.declared.Check.{Check}
-use Rattle.telegram.specs.declared.Check.TheVariants.{Passes, Failed, Refused}
+use Rattle.telegram.specs.declared.Refusal.{Refusal}
+use Rattle.telegram.specs.declared.Refusal.TheVariants.{OutOfRange, NoRecord, WrongPhase, NoRoom, BadValue, BadTelegram, TimeBackwards, Ended}
+use Rattle.telegram.specs.declared.Unfit.{Unfit}
+use Rattle.telegram.specs.declared.Unfit.TheVariants as unfit
+
+-- What the check found: the telegram passes, a clause fails, or it is refused.
+abbrev pub Check : Type 0
+Check = Result (Unit {0}) Unfit
+
+abbrev pub Passes : Check
+Passes = Ok tt
+
+abbrev pub Failed : Clause → Check
+Failed c = Err (unfit.Failed c)
+
+abbrev pub Refused : Refusal → Check
+Refused r = Err (unfit.Refused r)
 
 -- The command, byte 2.
 abbrev pub command_of : List ℕ → ℕ
@@ -68,10 +83,21 @@ first_failing (c ∷ cs) = pick c.0 (first_failing cs) (Failed c.1)
 
 -- The check: refused with 1 or 6, or the first clause that fails, or passed.
 unfoldable pub check_of : End → ℕ → List ℕ → Check
-check_of e expected t = pick (in_range e) (pick (on_bus (length t)) (first_failing (clauses e expected t)) (Refused 6)) (Refused 1)
+check_of e expected t = pick (in_range e) (pick (on_bus (length t)) (first_failing (clauses e expected t)) (Refused BadTelegram)) (Refused OutOfRange)
+
+-- The number of a refusal.
+abbrev pub refusal_number : Refusal → ℕ
+refusal_number OutOfRange = 1
+refusal_number NoRecord = 2
+refusal_number WrongPhase = 3
+refusal_number NoRoom = 4
+refusal_number BadValue = 5
+refusal_number BadTelegram = 6
+refusal_number TimeBackwards = 7
+refusal_number Ended = 8
 
 -- The number that says what the check found: 0 passes, 1 and 6 refused, 100 failed.
 abbrev pub answer_number : Check → ℕ
-answer_number Passes = 0
-answer_number (Failed c) = 100
-answer_number (Refused n) = n
+answer_number (Ok u) = 0
+answer_number (Err (unfit.Failed c)) = 100
+answer_number (Err (unfit.Refused r)) = refusal_number r

@@ -9,12 +9,11 @@ use Rattle.telegram.specs.Ends.{receiving, mirrored}
 use Rattle.telegram.specs.Telegrams.{version_and_bus, authentication_number}
 use Rattle.telegram.specs.Writers.{writes_request, writes_confirm, writes_authentication, writes_acknowledgement, writes_disconnect, writes_idle, writes_data}
 use Rattle.telegram.specs.Writers.Outcome.{wrote}
-use Rattle.telegram.specs.Check.{command_of, used_for, check_of}
+use Rattle.telegram.specs.Check.{command_of, used_for, check_of, Passes}
 use Rattle.telegram.specs.NetData.{net_data}
 use Rattle.telegram.specs.declared.End.{End}
 use Rattle.telegram.specs.declared.Kind.{Kind}
 use Rattle.telegram.specs.declared.Kind.TheVariants.{Request, Confirm, Authentication, Acknowledgement, Disconnect, Idle, Data}
-use Rattle.telegram.specs.declared.Check.TheVariants.{Passes}
 
 -- What an end writes, the mirrored end takes.
 

@@ -69,7 +69,7 @@ pub enum Refusal {
 }
 
 // The clauses of the check, in their order.
-#[derive(Clone, Copy)]
+#[derive(Clone, Copy, Debug, PartialEq, Eq)]
 pub enum Clause {
     Level,
     Command,
@@ -79,13 +79,15 @@ pub enum Clause {
     Word,
 }
 
-// What the check found.
-#[derive(Clone, Copy)]
-pub enum Check {
-    Passes,
+// Why a telegram does not pass: the first clause that fails, or why it is not looked at.
+#[derive(Clone, Copy, Debug, PartialEq, Eq)]
+pub enum Unfit {
     Failed(Clause),
-    Refused(u32),
+    Refused(Refusal),
 }
+
+// What the check found.
+pub type Check = Result<(), Unfit>;
 
 // Where the net data of a telegram lie.
 #[repr(C)]

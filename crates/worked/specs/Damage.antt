@@ -13,11 +13,10 @@ use Rattle.telegram.specs.Ends.{mirrored, in_range, implicit}
 use Rattle.telegram.specs.Telegrams as telegrams
 use Rattle.telegram.specs.Telegrams.{sealed, body, check_word}
 use Rattle.telegram.specs.Writers.{refusal, connect_allowed, disconnect_allowed, writes_disconnect}
-use Rattle.telegram.specs.Check.{command_of, check_of, word_agrees}
+use Rattle.telegram.specs.Check.{command_of, check_of, word_agrees, Passes, Failed}
 use Rattle.telegram.specs.declared.Kind.TheVariants.{Data}
 use Rattle.telegram.specs.declared.Clause.{Clause}
 use Rattle.telegram.specs.declared.Clause.TheVariants as clause
-use Rattle.telegram.specs.declared.Check.TheVariants.{Passes, Failed}
 use Rattle.link.specs.Records.{end_of, record_in_range, is_phase, is_closed, at_rest, fresh_of, become, closed_by}
 use Rattle.link.specs.Times.{wait_over, watch_over}
 use Rattle.link.specs.Judged.{judged, passed, run_out, expected_now}

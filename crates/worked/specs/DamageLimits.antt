@@ -11,8 +11,7 @@ use Rattle.telegram.specs.Commands.{kind_of, is_data}
 use Rattle.telegram.specs.Values.{good_idle, good_dual_bus}
 use Rattle.telegram.specs.Ends.{in_range, implicit}
 use Rattle.telegram.specs.Telegrams.{check_word}
-use Rattle.telegram.specs.Check.{command_of, check_of, word_agrees}
-use Rattle.telegram.specs.declared.Check.TheVariants.{Passes}
+use Rattle.telegram.specs.Check.{command_of, check_of, word_agrees, Passes}
 use Rattle.link.specs.Records.{end_of}
 use Rattle.worked.specs.Demand3.{example_telegram4, example_telegram2}
 use Rattle.demands.specs.Damage.{Changed, Damage}

@@ -12,10 +12,9 @@ use Rattle.telegram.specs.Values.{good_idle, good_type, listed_reason}
 use Rattle.telegram.specs.Ends.{in_range, implicit}
 use Rattle.telegram.specs.Telegrams.{data_telegram, idle, disconnect, sealed, body, check_word}
 use Rattle.telegram.specs.Writers.{refusal, data_allowed, writes_data, writes_idle, disconnect_allowed, writes_disconnect, connect_allowed}
-use Rattle.telegram.specs.Check.{check_of, word_agrees}
+use Rattle.telegram.specs.Check.{check_of, word_agrees, Failed}
 use Rattle.telegram.specs.declared.Clause.{Clause}
 use Rattle.telegram.specs.declared.Clause.TheVariants as clause
-use Rattle.telegram.specs.declared.Check.TheVariants.{Failed}
 use Rattle.link.specs.Records.{is_closed, end_of, record_in_range, is_phase, become}
 use Rattle.link.specs.Times.{watch_over, idle_due}
 use Rattle.link.specs.Judged.{ticked, run_out, run_out_verdict, judged, passed, expected_now}

@@ -13,10 +13,8 @@ use Rattle.telegram.specs.Ends.{receiving, mirrored, in_range, implicit}
 use Rattle.telegram.specs.Telegrams as telegrams
 use Rattle.telegram.specs.Telegrams.{data_telegram, sealed, body, check_word}
 use Rattle.telegram.specs.Writers.{writes_disconnect, writes_data, refusal, data_allowed, connect_allowed, disconnect_allowed}
-use Rattle.telegram.specs.Check.{used_for, check_of, word_agrees}
+use Rattle.telegram.specs.Check.{used_for, check_of, word_agrees, Check, Passes, Failed}
 use Rattle.telegram.specs.declared.Clause.TheVariants as clause
-use Rattle.telegram.specs.declared.Check.{Check}
-use Rattle.telegram.specs.declared.Check.TheVariants.{Passes, Failed}
 use Rattle.link.specs.Records.{end_of, record_in_range, is_phase, is_closed, at_rest, fresh_of, become, closed_by}
 use Rattle.link.specs.Times.{watch_over}
 use Rattle.link.specs.Judged.{judged, run_out, expected_now}

@@ -19,13 +19,12 @@ use Rattle.telegram.specs.Layout.{on_bus, values}
 use Rattle.telegram.specs.Telegrams as telegrams
 use Rattle.telegram.specs.Telegrams.{version_and_bus, authentication_number, body, sealed}
 use Rattle.telegram.specs.Writers.{refusal, connect_allowed, disconnect_allowed, data_allowed, writes_request, writes_confirm, writes_authentication, writes_acknowledgement, writes_disconnect, writes_idle, writes_data}
-use Rattle.telegram.specs.Check.{command_of, check_of}
+use Rattle.telegram.specs.Check.{command_of, check_of, Failed}
 use Rattle.telegram.specs.Facts.{Taken}
 use Rattle.telegram.specs.declared.End.{End}
 use Rattle.telegram.specs.declared.Kind.{Kind}
 use Rattle.telegram.specs.declared.Kind.TheVariants as kind
 use Rattle.telegram.specs.declared.Clause.TheVariants as clause
-use Rattle.telegram.specs.declared.Check.TheVariants.{Failed}
 use Rattle.telegram.proofs.Taken.{request_taken, confirm_taken, authentication_taken, acknowledgement_taken, disconnect_taken, idle_taken, data_taken}
 use Rattle.telegram.proofs.Apart.{passed}
 use Rattle.link.proofs.Cases.{columns}

@@ -15,9 +15,8 @@ use Rattle.telegram.specs.Commands.{kind_of, is_data}
 use Rattle.telegram.specs.Values.{good_idle, good_type, good_dual_bus}
 use Rattle.telegram.specs.Ends.{in_range, implicit}
 use Rattle.telegram.specs.Telegrams.{check_word}
-use Rattle.telegram.specs.Check.{check_of, word_agrees, answer_number}
+use Rattle.telegram.specs.Check.{check_of, word_agrees, answer_number, Passes}
 use Rattle.telegram.specs.declared.End.{End}
-use Rattle.telegram.specs.declared.Check.TheVariants.{Passes}
 use Rattle.demands.specs.Demand3.{Checking, Demand3}
 use Rattle.demands.proofs.Determined.{demand_3_determines_what_passes}
 use Rattle.wrong.specs.WrongChecks.{without, OurClausesAreOurs, AClauseLeftOutIsShutOut, Byte1OfAConnectNotComparedIsShutOut, ABackDoorIsShutOut, PassingOnlyOurVersionIsShutOut, WrongChecksAreShutOut}

@@ -16,6 +16,7 @@ use Rattle.checkword.specs.Generators.{generator32}
 use Rattle.checkword.specs.Word.{shift, feed}
 use Rattle.checkword.proofs.Bytes.{bytes_of_bytes, number_bytes_of}
 use Rattle.ground.specs.Choice.{pick, all}
+use Rattle.std.specs.Prelude.{Ok, Err}
 use Rattle.telegram.specs.Levels.{level_of, top_bits, width, word_length, generator, added}
 use Rattle.telegram.specs.Commands.{kind_of_command, kind_of, is_data}
 use Rattle.telegram.specs.Values.{good_idle, good_type, listed_reason, good_dual_bus}
@@ -24,11 +25,10 @@ use Rattle.telegram.specs.NetData.{net_part, net_data}
 use Rattle.telegram.specs.Telegrams as telegrams
 use Rattle.telegram.specs.Telegrams.{sealed, body, check_word}
 use Rattle.telegram.specs.Writers.{refusal, connect_allowed, disconnect_allowed, data_allowed, writes_request, writes_confirm, writes_authentication, writes_acknowledgement, writes_disconnect, writes_idle, writes_data}
-use Rattle.telegram.specs.Check.{command_of, check_of, word_agrees, answer_number}
+use Rattle.telegram.specs.Check.{command_of, check_of, word_agrees, answer_number, Check, Passes, Failed, Refused}
 use Rattle.telegram.specs.declared.End.{End}
 use Rattle.telegram.specs.declared.Clause.TheVariants as clause
-use Rattle.telegram.specs.declared.Check.{Check}
-use Rattle.telegram.specs.declared.Check.TheVariants.{Passes, Failed, Refused}
+use Rattle.telegram.specs.declared.Refusal.TheVariants.{OutOfRange}
 use Rattle.link.specs.Records.{end_of, record_in_range, is_phase, is_closed, at_rest, fresh_of, become, closed_by}
 use Rattle.link.specs.Times.{wait_over, watch_over, idle_due}
 use Rattle.link.specs.Judged.{row_of, ruled, narrowed, checked_by, judged, passed, expected_now, run_out, run_out_verdict, ticked, good_version, good_number}
@@ -145,7 +145,7 @@ addresses_from_the_frame_are_shut_out frame d = by (in_range framed) refl
         let passes = d.written_passes (mirrored framed) 0 (telegrams.idle (mirrored framed) 0) (idle (replicate 244 0) (rw (mirrored_in_range framed e) refl)) in
         d.at_4 head two 0 1 0 0 (telegrams.idle (mirrored framed) 0) (lit< tt, (lit< tt, bytes_of_bytes 6 _)) are_two refl passes passes
     by false e =
-        fails (Refused 1) (rw e at (d.written_passes (end9 4) 0 (telegrams.idle (end9 4) 0) idle_of_9)) (λ z. omega arith)
+        fails (Refused OutOfRange) (rw e at (d.written_passes (end9 4) 0 (telegrams.idle (end9 4) 0) idle_of_9)) (λ z. omega arith)
 
 -- The idle telegram with the number 0 passes at 0, and at 256 too.
 pub only_byte_1_compared_is_shut_out : OnlyByte1ComparedIsShutOut
@@ -310,9 +310,8 @@ numbering_by_our_number_is_ours c h t time d =
     alike (verdict.Close reason last) r t = refl
 
     checked : (c : Check) (r : Record) (t : List ℕ) → numbered_by good_number (verdict.Close 0x03 true) c r t ≡ checked_by c r t
-    checked Passes r t = alike (ruled (row_of (kind_of_command (command_of t))) r.phase) r t
-    checked (Failed c) r t = refl
-    checked (Refused n) r t = refl
+    checked (Ok done) r t = alike (ruled (row_of (kind_of_command (command_of t))) r.phase) r t
+    checked (Err why) r t = refl
 
 -- Node 8 awaits an acknowledgement with its random number 0, changed: 2 at level 2. Node 9 acknowledges with 1.
 abbrev acknowledged_1 : List ℕ

@@ -7,16 +7,16 @@ use Rattle.ground.specs.Choice.{pick}
 use Rattle.telegram.specs.Layout.{on_bus}
 use Rattle.telegram.specs.Ends.{in_range}
 use Rattle.telegram.specs.Fields.{low_of, version_x_of}
-use Rattle.telegram.specs.Check.{used_for, clauses, first_failing, check_of}
+use Rattle.telegram.specs.Check.{used_for, clauses, first_failing, check_of, Passes, Failed, Refused}
 use Rattle.telegram.specs.declared.End.{End}
 use Rattle.telegram.specs.declared.Clause.{Clause}
 use Rattle.telegram.specs.declared.Clause.TheVariants as clause
-use Rattle.telegram.specs.declared.Check.TheVariants.{Passes, Failed, Refused}
+use Rattle.telegram.specs.declared.Refusal.TheVariants.{BadTelegram, OutOfRange}
 use Rattle.demands.specs.Demand3.{Checking, Demand3}
 
 -- Our check, but the clauses are given; with `clauses` it is ours.
 abbrev pub clauses_by : (End → ℕ → List ℕ → List (Bool × Clause)) → Checking
-clauses_by cs e expected t = pick (in_range e) (pick (on_bus (length t)) (first_failing (cs e expected t)) (Refused 6)) (Refused 1)
+clauses_by cs e expected t = pick (in_range e) (pick (on_bus (length t)) (first_failing (cs e expected t)) (Refused BadTelegram)) (Refused OutOfRange)
 
 abbrev pub OurClausesAreOurs : Type 0
 OurClausesAreOurs = (e : End) (n : ℕ) (t : List ℕ) → clauses_by clauses e n t ≡ check_of e n t

@@ -4,6 +4,7 @@
 use Rattle.std.specs.Prelude.{◌≡◌, Bool, true, false, List, [], ◌∷◌, ◌++◌, map, ℕ, ◌+◌, ◌-◌, ◌^◌, ◌<◌, length, take, drop, set, replicate, leb, eqb, None}
 use Rattle.checkword.specs.Bytes.{number, bytes_of}
 use Rattle.ground.specs.Choice.{pick, all}
+use Rattle.std.specs.Prelude.{Ok, Err}
 use Rattle.telegram.specs.Levels.{word_length}
 use Rattle.telegram.specs.Layout.{on_bus}
 use Rattle.telegram.specs.Ends.{in_range}
@@ -11,11 +12,10 @@ use Rattle.telegram.specs.Fields.{random_of, authentication_of}
 use Rattle.telegram.specs.Telegrams as telegrams
 use Rattle.telegram.specs.Telegrams.{authentication_number}
 use Rattle.telegram.specs.Commands.{kind_of_command}
-use Rattle.telegram.specs.Check.{command_of, used_for, covered, word_agrees, clauses, first_failing, check_of, answer_number}
+use Rattle.telegram.specs.Check.{command_of, used_for, covered, word_agrees, clauses, first_failing, check_of, answer_number, Check, Passes, Failed, Refused}
 use Rattle.telegram.specs.declared.End.{End}
 use Rattle.telegram.specs.declared.Clause.TheVariants as clause
-use Rattle.telegram.specs.declared.Check.{Check}
-use Rattle.telegram.specs.declared.Check.TheVariants.{Passes, Failed, Refused}
+use Rattle.telegram.specs.declared.Refusal.TheVariants.{BadTelegram, OutOfRange}
 use Rattle.link.specs.Records.{end_of, fresh_of, become, closed_by}
 use Rattle.link.specs.Table.{Incorrect-rcv-1st}
 use Rattle.link.specs.Judged.{row_of, ruled, narrowed, checked_by, back, good_number, expected_now, run_out, run_out_verdict, judged, ticked}
@@ -57,7 +57,7 @@ PassingNothingIsShutOut = Demand3 passes_none → ⊥
 -- Our check, but what says whether the check word agrees is given; with `word_agrees` it is ours.
 abbrev pub checking_by : (End → ℕ → List ℕ → Bool) → Checking
 checking_by agrees e expected t =
-    pick (in_range e) (pick (on_bus (length t)) (first_failing (take 5 (clauses e expected t) ++ (agrees e (used_for expected t) t, clause.Word) ∷ [])) (Refused 6)) (Refused 1)
+    pick (in_range e) (pick (on_bus (length t)) (first_failing (take 5 (clauses e expected t) ++ (agrees e (used_for expected t) t, clause.Word) ∷ [])) (Refused BadTelegram)) (Refused OutOfRange)
 
 abbrev pub CheckingByOurWordIsOurs : Type 0
 CheckingByOurWordIsOurs = (e : End) (n : ℕ) (t : List ℕ) → checking_by word_agrees e n t ≡ check_of e n t
@@ -216,9 +216,8 @@ numbered good bad verdict.Disconnected r t = narrowed verdict.Disconnected r t
 numbered good bad (verdict.Close reason last) r t = narrowed (verdict.Close reason last) r t
 
 abbrev pub numbered_by : (Record → ℕ → List ℕ → Bool) → Verdict → Check → Record → List ℕ → Verdict
-numbered_by good bad Passes r t = numbered good bad (ruled (row_of (kind_of_command (command_of t))) r.phase) r t
-numbered_by good bad (Failed c) r t = ruled Incorrect-rcv-1st r.phase
-numbered_by good bad (Refused n) r t = ruled Incorrect-rcv-1st r.phase
+numbered_by good bad (Ok done) r t = numbered good bad (ruled (row_of (kind_of_command (command_of t))) r.phase) r t
+numbered_by good bad (Err why) r t = ruled Incorrect-rcv-1st r.phase
 
 abbrev pub numbering : (Record → ℕ → List ℕ → Bool) → Verdict → Link
 numbering good bad =
