@@ -8,7 +8,8 @@ use crate::numbers::number_of;
 use ground::{byte, number_at1, number_at2, number_at4};
 use telegram::{
     Check, Clause, End, Kind, Refusal, Unfit, good_dual_bus, good_idle, good_type, in_range,
-    is_known, kind_of, length_suits, level_of, on_bus, receiving_bytes, word_length, word_of,
+    is_known, kind_of_telegram, length_suits, level_of, on_bus, receiving_bytes, word_length,
+    word_of,
 };
 
 // The number that a telegram is checked with: its own random number for request and confirm, else the expected one.
@@ -59,11 +60,10 @@ fn first_failing(end: End, expected: u32, t: &[u8]) -> Result<(), Clause>
     requires { 6 ≤ length t.now }
     ensures { MatchResult result (λ _. first_failing (clauses end expected t.now) ≡ Passes) (λ clause. first_failing (clauses end expected t.now) ≡ Failed clause) }
 {
-    let command = byte(t, 1);
-    if level_of(command) != Some(end.level) {
+    if level_of(byte(t, 1)) != Some(end.level) {
         return Err(Clause::Level);
     }
-    let kind = kind_of((command % 64) as u32);
+    let kind = kind_of_telegram(t);
     if !is_known(kind) {
         return Err(Clause::Command);
     }

@@ -3,7 +3,7 @@ ghost use Rattle.std.specs.Prelude.{◌≡◌};
 ghost use Rattle.telegram.specs.Levels.{level_of, top_bits, word_length, added};
 ghost use Rattle.telegram.specs.Telegrams.{check_word};
 
-// The level that a command's top two bits give: 4, 2 or 0, or none. A number, since `End::level` is one that a caller may set to any.
+// The level that a command's top two bits give: 4, 2 or 0, or none.
 #[tactic(auto, using(ground::specs::Choice::tests), unfolding(crate::specs::Levels::level_of))]
 pub fn level_of(command: u8) -> Option<u32>
     ensures { result ≡ level_of command }
