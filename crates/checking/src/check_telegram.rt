@@ -44,14 +44,14 @@ fn fields_in_range(kind: Kind, t: &[u8]) -> bool
 }
 
 // Whether the check word that came is the one of the end's implicit bytes and the telegram.
+#[tactic(auto, using(telegram::proofs::Widths::word_small), unfolding(telegram::specs::Check::word_agrees))]
 fn word_agrees(end: End, used: u32, t: &[u8]) -> bool
     requires { 6 ≤ length t.now }
     ensures { result ≡ word_agrees end used t.now }
 {
     let implicit = receiving_bytes(end, used, t.len());
-    let covered = t.len() - word_length(end.level);
-    let came = number_of(&t[covered..]);
-    came == word_of(end.level, &implicit, &t[..covered])
+    let (covered, came) = t.split_at(t.len() - word_length(end.level));
+    number_of(came) == word_of(end.level, &implicit, covered)
 }
 
 // The first clause that fails, of a telegram that the bus can carry.
