@@ -1,19 +1,20 @@
 // One writer for each telegram. Each writes at the front of the lent buffer and leaves the bytes behind the telegram as they were; when it refuses, it
 // leaves the whole buffer as it was.
-ghost use Rattle.std.specs.Prelude.{◌≡◌, ◌+◌, ◌<◌, ◌≤◌, [], ◌∷◌, length};
+ghost use Rattle.std.specs.Prelude.{◌≡◌, ◌+◌, ◌<◌, ◌≤◌, [], ◌∷◌, true, length};
 ghost use Rattle.telegram.specs.Levels.{word_length};
 ghost use Rattle.telegram.specs.Layout.{layout, field_bytes};
 ghost use Rattle.telegram.specs.Telegrams.{body, sealed, version_and_bus, authentication_number};
 ghost use Rattle.telegram.specs.Writers.{answer_of, left_by, unless, refusal, connect_allowed, disconnect_allowed, data_allowed};
 ghost use Rattle.telegram.specs.Writers.{writes_request, writes_confirm, writes_authentication, writes_acknowledgement};
 ghost use Rattle.telegram.specs.Writers.{writes_disconnect, writes_idle, writes_data};
+ghost use Rattle.writers.specs.Puts.{Suits, answer, told, puts};
 ghost use Rattle.telegram.specs.Writers.Outcome.{wrote};
 
 use crate::put::{copy_at, put_word};
 use telegram::{
     ACKNOWLEDGEMENT, AUTHENTICATION, CONFIRM, DISCONNECT, End, IDLE, Kind, LONGEST, REQUEST,
-    Written, added_number, good_idle, good_type, in_range, is_data, listed_reason, most_net,
-    sending_bytes, top_bits, word_length,
+    Refusal, Written, added_number, good_idle, good_type, in_range, is_data, listed_reason,
+    most_net, sending_bytes, top_bits, word_length,
 };
 
 // The version that we write, and the dual bus byte.
@@ -25,23 +26,40 @@ const VERSION_Z: u8 = 0;
 
 const DUAL_BUS: u8 = 0;
 
-// The first refusal that holds, or 0.
-#[tactic(auto, using(ground::specs::Choice::tests), unfolding(telegram::specs::Writers::refusal))]
-fn first_refusal(end: End, room: usize, allowed: bool) -> u32
-    ensures { result ≡ refusal end room allowed }
+// What the caller is told, in the form of the C interface: the length written, or the refusal's number and 0.
+fn told(outcome: Result<u32, Refusal>) -> Written
+    ensures { result ≡ told outcome }
 {
-    if !in_range(end) {
-        return 1;
+    match outcome {
+        Ok(length) => Written { answer: 0, length },
+        Err(refusal) => Written {
+            answer: refusal as u32,
+            length: 0,
+        },
     }
-    if room < LONGEST {
-        return 4;
-    }
-    if allowed { 0 } else { 5 }
 }
 
-// Writes a telegram by the command's low six bits, the bytes of its fixed fields, and its net data. Its length comes back.
+// The first refusal that holds is the answer.
+#[tactic(auto, using(ground::specs::Choice::tests), unfolding(telegram::specs::Writers::refusal))]
+fn permit(end: End, room: usize, allowed: bool) -> Result<(), Refusal>
+    ensures { answer result ≡ refusal end room allowed }
+{
+    if !in_range(end) {
+        return Err(Refusal::OutOfRange);
+    }
+    if room < LONGEST {
+        return Err(Refusal::NoRoom);
+    }
+    if !allowed {
+        return Err(Refusal::BadValue);
+    }
+    Ok(())
+}
+
+// Writes a telegram by the command's low six bits, the bytes of its fixed fields, and its net data. Its length comes
+// back.
 fn put_telegram(out: &mut [u8], end: End, number: u32, low: u32, fields: &[u8], net: &[u8]) -> u32
-    requires { (244 ≤ length out.old) × (2 + length fields.now + length net.now + word_length end.level ≤ 244) × (low < 64) }
+    requires { (244 ≤ length out.old) × Suits end low fields.now net.now }
     ensures { (result ≡ length (sealed end number (body end.level number low fields.now net.now))) × (out.new ≡ left_by (wrote (sealed end number (body end.level number low fields.now net.now))) out.old) }
 {
     let command = top_bits(end.level) * 64 + low;
@@ -57,40 +75,31 @@ fn put_telegram(out: &mut [u8], end: End, number: u32, low: u32, fields: &[u8], 
     count as u32
 }
 
-// Writes a telegram, or, where there is a refusal to answer, leaves the buffer as it is. The length written comes back.
-fn put_unless(
-    answer: u32,
+// Writes such a telegram, or leaves the buffer as it is where there is a refusal.
+fn put(
     out: &mut [u8],
     end: End,
     number: u32,
     low: u32,
+    allowed: bool,
     fields: &[u8],
     net: &[u8],
-) -> u32
-    requires { answer ≡ 0 → (244 ≤ length out.old) × (2 + length fields.now + length net.now + word_length end.level ≤ 244) × (low < 64) }
-    ensures { (result ≡ (answer_of (unless answer (sealed end number (body end.level number low fields.now net.now)))).length) × (out.new ≡ left_by (unless answer (sealed end number (body end.level number low fields.now net.now))) out.old) }
+) -> Result<u32, Refusal>
+    requires { allowed ≡ true → Suits end low fields.now net.now }
+    ensures { (told result ≡ answer_of (puts end number low allowed fields.now net.now out.old)) × (out.new ≡ left_by (puts end number low allowed fields.now net.now out.old) out.old) }
 {
-    if answer != 0 {
-        return 0;
-    }
-    put_telegram(out, end, number, low, fields, net)
+    permit(end, out.len(), allowed)?;
+    Ok(put_telegram(out, end, number, low, fields, net))
 }
 
 // The fixed fields of a connect request or confirm: random number, idle time, version, dual bus.
 fn connect_fields(random: u32, time: u32) -> [u8; 10]
     ensures { result ≡ field_bytes (layout Kind.Request) (random ∷ time ∷ version_and_bus) }
 {
+    let [first, second, third, fourth] = random.to_le_bytes();
+    let [low, high, ..] = time.to_le_bytes();
     [
-        (random % 256) as u8,
-        (random / 256 % 256) as u8,
-        (random / 256 / 256 % 256) as u8,
-        (random / 256 / 256 / 256 % 256) as u8,
-        (time % 256) as u8,
-        (time / 256 % 256) as u8,
-        VERSION_X,
-        VERSION_Y,
-        VERSION_Z,
-        DUAL_BUS,
+        first, second, third, fourth, low, high, VERSION_X, VERSION_Y, VERSION_Z, DUAL_BUS,
     ]
 }
 
@@ -98,20 +107,7 @@ fn connect_fields(random: u32, time: u32) -> [u8; 10]
 pub fn authentication_of(level: u32, received: u32) -> u32
     ensures { result ≡ authentication_number level received }
 {
-    std::num::wrapping_add_u32(received, added_number(level))
-}
-
-// The fixed field of an authentication or its acknowledgement.
-fn authentication_fields(level: u32, received: u32) -> [u8; 4]
-    ensures { result ≡ field_bytes (layout Kind.Authentication) (authentication_number level received ∷ []) }
-{
-    let number = authentication_of(level, received);
-    [
-        (number % 256) as u8,
-        (number / 256 % 256) as u8,
-        (number / 256 / 256 % 256) as u8,
-        (number / 256 / 256 / 256 % 256) as u8,
-    ]
+    received.wrapping_add(added_number(level))
 }
 
 // Whether a connect request or confirm may carry these values.
@@ -119,10 +115,7 @@ fn authentication_fields(level: u32, received: u32) -> [u8; 4]
 pub fn connect_allowed(time: u32, count: usize, level: u32) -> bool
     ensures { result ≡ connect_allowed time count level }
 {
-    if !good_idle(time) {
-        return false;
-    }
-    count <= most_net(Kind::Request, level)
+    good_idle(time) && count <= most_net(Kind::Request, level)
 }
 
 // Whether a disconnect may carry these values.
@@ -130,13 +123,7 @@ pub fn connect_allowed(time: u32, count: usize, level: u32) -> bool
 pub fn disconnect_allowed(new_setup: u32, reason: u32, count: usize, level: u32) -> bool
     ensures { result ≡ disconnect_allowed new_setup reason count level }
 {
-    if !good_type(new_setup) {
-        return false;
-    }
-    if !listed_reason(reason) {
-        return false;
-    }
-    count <= most_net(Kind::Disconnect, level)
+    good_type(new_setup) && listed_reason(reason) && count <= most_net(Kind::Disconnect, level)
 }
 
 // Whether a data telegram may carry these values.
@@ -144,52 +131,90 @@ pub fn disconnect_allowed(new_setup: u32, reason: u32, count: usize, level: u32)
 pub fn data_allowed(low: u32, count: usize, level: u32) -> bool
     ensures { result ≡ data_allowed low count level }
 {
-    if !is_data(low) {
-        return false;
-    }
-    count <= most_net(Kind::Data, level)
+    is_data(low) && count <= most_net(Kind::Data, level)
 }
 
-// Connect request (5.2.1). The random number is the telegram's sequence number.
+// A connect request or confirm, by its command. The random number is the telegram's sequence number.
+fn write_connect(out: &mut [u8], end: End, low: u32, random: u32, time: u32, net: &[u8]) -> Written
+    requires { low < 64 }
+    ensures { (result ≡ answer_of (puts end random low (connect_allowed time (length net.now) end.level) (field_bytes (layout Kind.Request) (random ∷ time ∷ version_and_bus)) net.now out.old)) × (out.new ≡ left_by (puts end random low (connect_allowed time (length net.now) end.level) (field_bytes (layout Kind.Request) (random ∷ time ∷ version_and_bus)) net.now out.old) out.old) }
+{
+    let allowed = connect_allowed(time, net.len(), end.level);
+    let fields = connect_fields(random, time);
+    told(put(out, end, random, low, allowed, &fields, net))
+}
+
+// Connect request (5.2.1).
+#[tactic(
+    auto,
+    unfolding(
+        telegram::specs::Writers::writes_request,
+        telegram::specs::Telegrams::request,
+        telegram::specs::Commands::kind_of,
+        ground::specs::Choice::pick
+    )
+)]
 pub fn write_request(out: &mut [u8], end: End, random: u32, time: u32, net: &[u8]) -> Written
     ensures { (result ≡ answer_of (writes_request end random time net.now out.old)) × (out.new ≡ left_by (writes_request end random time net.now out.old) out.old) }
 {
-    let allowed = connect_allowed(time, net.len(), end.level);
-    let answer = first_refusal(end, out.len(), allowed);
-    let fields = connect_fields(random, time);
-    let length = put_unless(answer, out, end, random, REQUEST, &fields, net);
-    Written { answer, length }
+    write_connect(out, end, REQUEST, random, time, net)
 }
 
 // Connect confirm (5.2.2).
+#[tactic(
+    auto,
+    unfolding(
+        telegram::specs::Writers::writes_confirm,
+        telegram::specs::Telegrams::confirm,
+        telegram::specs::Commands::kind_of,
+        ground::specs::Choice::pick
+    )
+)]
 pub fn write_confirm(out: &mut [u8], end: End, random: u32, time: u32, net: &[u8]) -> Written
     ensures { (result ≡ answer_of (writes_confirm end random time net.now out.old)) × (out.new ≡ left_by (writes_confirm end random time net.now out.old) out.old) }
 {
-    let allowed = connect_allowed(time, net.len(), end.level);
-    let answer = first_refusal(end, out.len(), allowed);
-    let fields = connect_fields(random, time);
-    let length = put_unless(answer, out, end, random, CONFIRM, &fields, net);
-    Written { answer, length }
+    write_connect(out, end, CONFIRM, random, time, net)
+}
+
+// An authentication or its acknowledgement, by its command, from the random number RECEIVED at set-up.
+fn write_number(out: &mut [u8], end: End, low: u32, number: u32, received: u32) -> Written
+    requires { low < 64 }
+    ensures { (result ≡ answer_of (puts end number low true (field_bytes (layout Kind.Authentication) (authentication_number end.level received ∷ [])) [] out.old)) × (out.new ≡ left_by (puts end number low true (field_bytes (layout Kind.Authentication) (authentication_number end.level received ∷ [])) [] out.old) out.old) }
+{
+    let fields = authentication_of(end.level, received).to_le_bytes();
+    told(put(out, end, number, low, true, &fields, b""))
 }
 
 // Authentication (5.2.3), from the random number RECEIVED at set-up.
+#[tactic(
+    auto,
+    unfolding(
+        telegram::specs::Writers::writes_authentication,
+        telegram::specs::Telegrams::authentication,
+        telegram::specs::Commands::kind_of,
+        ground::specs::Choice::pick
+    )
+)]
 pub fn write_authentication(out: &mut [u8], end: End, number: u32, received: u32) -> Written
     ensures { (result ≡ answer_of (writes_authentication end number received out.old)) × (out.new ≡ left_by (writes_authentication end number received out.old) out.old) }
 {
-    let answer = first_refusal(end, out.len(), true);
-    let fields = authentication_fields(end.level, received);
-    let length = put_unless(answer, out, end, number, AUTHENTICATION, &fields, b"");
-    Written { answer, length }
+    write_number(out, end, AUTHENTICATION, number, received)
 }
 
 // Authentication acknowledgement (5.2.4), from the random number RECEIVED at set-up.
+#[tactic(
+    auto,
+    unfolding(
+        telegram::specs::Writers::writes_acknowledgement,
+        telegram::specs::Telegrams::acknowledgement,
+        telegram::specs::Commands::kind_of,
+        ground::specs::Choice::pick
+    )
+)]
 pub fn write_acknowledgement(out: &mut [u8], end: End, number: u32, received: u32) -> Written
     ensures { (result ≡ answer_of (writes_acknowledgement end number received out.old)) × (out.new ≡ left_by (writes_acknowledgement end number received out.old) out.old) }
 {
-    let answer = first_refusal(end, out.len(), true);
-    let fields = authentication_fields(end.level, received);
-    let length = put_unless(answer, out, end, number, ACKNOWLEDGEMENT, &fields, b"");
-    Written { answer, length }
+    write_number(out, end, ACKNOWLEDGEMENT, number, received)
 }
 
 // Disconnect (5.2.5). A new set-up is desired, 1, or the disconnection is final, 0.
@@ -204,19 +229,15 @@ pub fn write_disconnect(
     ensures { (result ≡ answer_of (writes_disconnect end number new_setup reason text.now out.old)) × (out.new ≡ left_by (writes_disconnect end number new_setup reason text.now out.old) out.old) }
 {
     let allowed = disconnect_allowed(new_setup, reason, text.len(), end.level);
-    let answer = first_refusal(end, out.len(), allowed);
     let fields = [(new_setup % 256) as u8, (reason % 256) as u8];
-    let length = put_unless(answer, out, end, number, DISCONNECT, &fields, text);
-    Written { answer, length }
+    told(put(out, end, number, DISCONNECT, allowed, &fields, text))
 }
 
 // Idle (5.2.6).
 pub fn write_idle(out: &mut [u8], end: End, number: u32) -> Written
     ensures { (result ≡ answer_of (writes_idle end number out.old)) × (out.new ≡ left_by (writes_idle end number out.old) out.old) }
 {
-    let answer = first_refusal(end, out.len(), true);
-    let length = put_unless(answer, out, end, number, IDLE, b"", b"");
-    Written { answer, length }
+    told(put(out, end, number, IDLE, true, b"", b""))
 }
 
 // Data (5.2.7), with the command's low six bits.
@@ -224,7 +245,5 @@ pub fn write_data(out: &mut [u8], end: End, number: u32, low: u32, net: &[u8]) -
     ensures { (result ≡ answer_of (writes_data end number low net.now out.old)) × (out.new ≡ left_by (writes_data end number low net.now out.old) out.old) }
 {
     let allowed = data_allowed(low, net.len(), end.level);
-    let answer = first_refusal(end, out.len(), allowed);
-    let length = put_unless(answer, out, end, number, low, b"", net);
-    Written { answer, length }
+    told(put(out, end, number, low, allowed, b"", net))
 }

@@ -1,0 +1,40 @@
+-- What the writers share: the refusal that is told as a number, and a telegram that is put at the front of a buffer unless it is refused.
+-- Assumes nothing.
+use Rattle.std.specs.Prelude.{Bool, List, ℕ, ◌+◌, ◌≤◌, ◌<◌, length, Result, Ok, Err}
+use Rattle.telegram.specs.Levels.{word_length}
+use Rattle.telegram.specs.Layout.{longest}
+use Rattle.telegram.specs.Telegrams.{body, sealed}
+use Rattle.telegram.specs.Writers.{Outcome, refusal, unless}
+use Rattle.telegram.specs.declared.End.{End}
+use Rattle.telegram.specs.declared.Written.{Written}
+use Rattle.telegram.specs.declared.Refusal.{Refusal}
+use Rattle.telegram.specs.declared.Refusal.TheVariants.{OutOfRange, NoRecord, WrongPhase, NoRoom, BadValue, BadTelegram, TimeBackwards, Ended}
+
+-- The number that a caller is answered.
+abbrev pub number : Refusal → ℕ
+number OutOfRange = 1
+number NoRecord = 2
+number WrongPhase = 3
+number NoRoom = 4
+number BadValue = 5
+number BadTelegram = 6
+number TimeBackwards = 7
+number Ended = 8
+
+-- 0 where there is no refusal.
+abbrev pub answer : {A : Type 0} → Result A Refusal → ℕ
+answer (Ok x) = 0
+answer (Err e) = number e
+
+-- What the caller of a writer is told of a length or a refusal.
+abbrev pub told : Result ℕ Refusal → Written
+told (Ok n) = record { answer = 0; length = n }
+told (Err e) = record { answer = number e; length = 0 }
+
+-- Head, fixed fields, net data and check word fit the longest telegram, and the command's low bits are six.
+abbrev pub Suits : End → ℕ → List ℕ → List ℕ → Type 0
+Suits e low fields net = (2 + length fields + length net + word_length e.level ≤ longest) × (low < 64)
+
+-- Onto the buffer d a telegram by its command's low six bits, the bytes of its fixed fields and its net data, or the first refusal that holds.
+abbrev pub puts : End → ℕ → ℕ → Bool → List ℕ → List ℕ → List ℕ → Outcome
+puts e number low allowed fields net d = unless (refusal e (length d) allowed) (sealed e number (body e.level number low fields net))
