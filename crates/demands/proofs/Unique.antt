@@ -104,7 +104,6 @@ link =
       received = λ «record» own time random idle telegram net out. unique₂;
       tick = λ «record» own time out. unique₂;
       idle_time_by = λ named time. unique;
-      happened_as = λ event. unique;
     }
 
 link_c : LinkC

@@ -1,50 +1,40 @@
--- What a definition by cases says once the case is known: so that every arm of a `match` is proved by one line.
+-- Phases by case: what holds in each holds in any, what the table says of a number that is no phase, and in which phase a step may begin.
 -- Assumes nothing.
-use Rattle.std.proofs.Common.{◌≡◌, ℕ, zero, suc, ◌*◌, ◌<◌, ◌≤◌, Bool, true, false, eqb, leb, List, [], ◌∷◌, sym, refl, ap, ◌∙◌, arith, eq-eqb, ne_eqb, le-leb, leb-true}
-use Rattle.ground.specs.Choice.{pick, all, no}
-use Rattle.telegram.specs.Check.{Check}
+use Rattle.std.proofs.lemmas.List.{get_or_past}
+use Rattle.std.proofs.Common.{slice_index_or, ◌-◌, ◌≡◌, ℕ, zero, suc, ◌≤◌, Bool, true, false, eqb, leb, [], ◌∷◌, sym, refl, ap, ◌∙◌, arith, eq-eqb, ne_eqb, leb-true}
+use Rattle.ground.specs.Choice.{pick, all}
 use Rattle.telegram.specs.Ends.{in_range}
 use Rattle.telegram.specs.Values.{good_idle}
 use Rattle.telegram.specs.declared.Kind.{Kind}
+use Rattle.telegram.specs.declared.Kind.TheVariants as kind
 use Rattle.telegram.proofs.Refusals.{both_true}
-use Rattle.link.specs.Records.{end_of, is_phase, is_closed, at_rest, record_in_range}
-use Rattle.link.specs.Table.{Row, Timeout-snd, Timeout-brk, Incorrect-rcv-1st}
+use Rattle.link.specs.Named.{column}
+use Rattle.link.specs.Records.{become, end_of, is_phase, is_closed, at_rest, record_in_range}
+use Rattle.link.specs.Table.{Cell, ◌⇒◌, f00, stays, Timeout-snd, Incorrect-rcv-1st}
 use Rattle.link.specs.Times.{idle_due}
-use Rattle.link.specs.Judged.{row_of, ruled, narrowed, checked_by, run_out, run_out_verdict, on_tick, ticked}
-use Rattle.link.specs.Steps.{neb, first_refusal, quietly, act_of, act_out}
+use Rattle.link.specs.Judged.{row_of, ruled, run_out, run_out_verdict, on_tick, ticked}
+use Rattle.link.specs.Steps.{neb, first_refusal}
 use Rattle.link.specs.declared.Record.{Record}
-use Rattle.link.specs.Plain.{happened}
-use Rattle.link.specs.declared.Happened.{Happened}
-use Rattle.link.specs.declared.Event.{Event}
-use Rattle.link.specs.declared.Step.{Step}
 use Rattle.link.specs.declared.Verdict.{Verdict}
-use Rattle.link.specs.declared.Verdict.TheVariants.{Nothing, SendIdle, Close}
+use Rattle.link.specs.declared.Verdict.TheVariants.{Nothing}
 
-pub ruled_at : (row : Row) (p q : ℕ) (v : Verdict) → p ≡ q → v ≡ ruled row q → v ≡ ruled row p
-ruled_at row p q v e h = rw e h
-
-pub narrowed_is : (v w x : Verdict) (r : Record) (t : List ℕ) → v ≡ w → x ≡ narrowed w r t → x ≡ narrowed v r t
-narrowed_is v w x r t e h = rw e h
-
-pub checked_is : (c d : Check) (r : Record) (t : List ℕ) (v : Verdict) → c ≡ d → v ≡ checked_by d r t → v ≡ checked_by c r t
-checked_is c d r t v e h = rw e h
-
-pub act_step_is : (v w : Verdict) (r : Record) (own time random declared : ℕ) (t net d : List ℕ) (s : Step) → v ≡ w
-    → s ≡ act_of w r own time random declared t net d → s ≡ act_of v r own time random declared t net d
-act_step_is v w r own time random declared t net d s e h = rw e h
-
-pub act_out_is : (v w : Verdict) (r : Record) (own random declared : ℕ) (t net d x : List ℕ) → v ≡ w
-    → x ≡ act_out w r own random declared t net d → x ≡ act_out v r own random declared t net d
-act_out_is v w r own random declared t net d x e h = rw e h
-
--- the same of a tick
-pub tick_step_is : (v w : Verdict) (r : Record) (own time : ℕ) (d : List ℕ) (s : Step) → v ≡ w
-    → s ≡ act_of (on_tick w) r own time 0 0 [] [] d → s ≡ act_of (on_tick v) r own time 0 0 [] [] d
-tick_step_is v w r own time d s e h = rw e h
-
-pub tick_out_is : (v w : Verdict) (r : Record) (own : ℕ) (d x : List ℕ) → v ≡ w
-    → x ≡ act_out (on_tick w) r own 0 0 [] [] d → x ≡ act_out (on_tick v) r own 0 0 [] [] d
-tick_out_is v w r own d x e h = rw e h
+-- a record after a step, field by field
+pub becomes : (r : Record) (phase sending expected declared watched sentAt takenAt : ℕ) → become r phase sending expected declared watched sentAt takenAt
+    ≡ record {
+      partner = r.partner;
+      partner_sap = r.partner_sap;
+      local_sap = r.local_sap;
+      level = r.level;
+      phase = phase;
+      sending = sending;
+      expected = expected;
+      declared = declared;
+      watched = watched;
+      sent_at = sentAt;
+      taken_at = takenAt;
+    }
+unfolding become
+becomes r phase sending expected declared watched sentAt takenAt = refl
 
 -- what holds in each of the six phases holds in any of them
 pub columns : (P : ℕ → Type 0) (p : ℕ) → 1 ≤ p → p ≤ 6 → P 1 → P 2 → P 3 → P 4 → P 5 → P 6 → P p
@@ -61,6 +51,66 @@ columns P (suc (suc (suc (suc (suc (suc (suc p))))))) l h a b c d e f = absurd (
 pub phases : (P : ℕ → Type 0) (p : ℕ) → 1 ≤ p → p ≤ 5 → P 1 → P 2 → P 3 → P 4 → P 5 → P p
 phases P p l h a b c d e = columns (λ (q : ℕ). q ≤ 5 → P q) p l (omega arith) (λ _. a) (λ _. b) (λ _. c) (λ _. d) (λ _. e) (λ m. absurd (omega arith)) h
 
+-- what holds of each column and of the numbers that fall to it holds of any number and its column
+falls : (P : ℕ → ℕ → Type 0) (p : ℕ) → P 1 0 → P 1 1 → P 2 2 → P 3 3 → P 4 4 → P 5 5 → P 6 6 → ((q : ℕ) → 7 ≤ q → P 6 q) → P (column p) p
+falls P zero z a b c d e f g = z
+falls P (suc zero) z a b c d e f g = a
+falls P (suc (suc zero)) z a b c d e f g = b
+falls P (suc (suc (suc zero))) z a b c d e f g = c
+falls P (suc (suc (suc (suc zero)))) z a b c d e f g = d
+falls P (suc (suc (suc (suc (suc zero))))) z a b c d e f g = e
+falls P (suc (suc (suc (suc (suc (suc zero)))))) z a b c d e f g = f
+falls P (suc (suc (suc (suc (suc (suc (suc p))))))) z a b c d e f g = above (suc (suc (suc (suc (suc (suc (suc p))))))) (omega arith)
+  where
+    above : (q : ℕ) → 7 ≤ q → P (column q) q
+    above q h = let e : column q ≡ 6 = omega arith in rw e (g q h)
+
+-- a number above the last column's has no cell in any row
+no_cell : (a b c d e f : Cell) (p : ℕ) → 7 ≤ p → slice_index_or (a ∷ b ∷ c ∷ d ∷ e ∷ f ∷ []) (p - 1) (f00 ⇒ stays) ≡ f00 ⇒ stays
+no_cell a b c d e f p h = get_or_past (a ∷ b ∷ c ∷ d ∷ e ∷ f ∷ []) (p - 1) (f00 ⇒ stays) (omega arith)
+
+nothing_above : (k : Kind) (p : ℕ) → 7 ≤ p → ruled (row_of k) p ≡ Nothing
+nothing_above kind.Request p h = rw no_cell
+nothing_above kind.Confirm p h = rw no_cell
+nothing_above kind.Authentication p h = rw no_cell
+nothing_above kind.Acknowledgement p h = rw no_cell
+nothing_above kind.Disconnect p h = rw no_cell
+nothing_above kind.Idle p h = rw no_cell
+nothing_above kind.Data p h = rw no_cell
+nothing_above kind.Unknown p h = rw no_cell
+
+-- the table says of a number what it says of its column
+pub ruled_by_column : (k : Kind) (p : ℕ) → ruled (row_of k) (column p) ≡ ruled (row_of k) p
+unfolding pick
+ruled_by_column kind.Request p = falls (λ x y. ruled (row_of kind.Request) x ≡ ruled (row_of kind.Request) y) p refl refl refl refl refl refl refl (λ q h. sym (nothing_above kind.Request q h))
+ruled_by_column kind.Confirm p = falls (λ x y. ruled (row_of kind.Confirm) x ≡ ruled (row_of kind.Confirm) y) p refl refl refl refl refl refl refl (λ q h. sym (nothing_above kind.Confirm q h))
+ruled_by_column kind.Authentication p = falls (λ x y. ruled (row_of kind.Authentication) x ≡ ruled (row_of kind.Authentication) y) p refl refl refl refl refl refl refl (λ q h. sym (nothing_above kind.Authentication q h))
+ruled_by_column kind.Acknowledgement p = falls (λ x y. ruled (row_of kind.Acknowledgement) x ≡ ruled (row_of kind.Acknowledgement) y) p refl refl refl refl refl refl refl (λ q h. sym (nothing_above kind.Acknowledgement q h))
+ruled_by_column kind.Disconnect p = falls (λ x y. ruled (row_of kind.Disconnect) x ≡ ruled (row_of kind.Disconnect) y) p refl refl refl refl refl refl refl (λ q h. sym (nothing_above kind.Disconnect q h))
+ruled_by_column kind.Idle p = falls (λ x y. ruled (row_of kind.Idle) x ≡ ruled (row_of kind.Idle) y) p refl refl refl refl refl refl refl (λ q h. sym (nothing_above kind.Idle q h))
+ruled_by_column kind.Data p = falls (λ x y. ruled (row_of kind.Data) x ≡ ruled (row_of kind.Data) y) p refl refl refl refl refl refl refl (λ q h. sym (nothing_above kind.Data q h))
+ruled_by_column kind.Unknown p = falls (λ x y. ruled (row_of kind.Unknown) x ≡ ruled (row_of kind.Unknown) y) p refl refl refl refl refl refl refl (λ q h. sym (nothing_above kind.Unknown q h))
+
+pub incorrect_by_column : (p : ℕ) → ruled Incorrect-rcv-1st (column p) ≡ ruled Incorrect-rcv-1st p
+incorrect_by_column p = ruled_by_column kind.Unknown p
+
+pub run_out_by_column : (p : ℕ) → run_out_verdict (column p) ≡ run_out_verdict p
+unfolding run_out_verdict pick
+run_out_by_column p =
+    falls (λ x y. run_out_verdict x ≡ run_out_verdict y) p refl refl refl refl refl refl refl (λ q h. rw (ne_eqb q 5 (λ e. omega arith), no_cell))
+
+-- the last column has no action
+pub last_column : (k : Kind) → ruled (row_of k) 6 ≡ Nothing
+unfolding pick
+last_column kind.Request = refl
+last_column kind.Confirm = refl
+last_column kind.Authentication = refl
+last_column kind.Acknowledgement = refl
+last_column kind.Disconnect = refl
+last_column kind.Idle = refl
+last_column kind.Data = refl
+last_column kind.Unknown = refl
+
 -- what holds of both verdicts holds of the one that a test picks
 pub either : (P : Verdict → Type 0) (b : Bool) (v w : Verdict) → P v → P w → P (pick b v w)
 unfolding pick
@@ -68,49 +118,15 @@ either P true v w p q = p
 either P false v w p q = q
 
 -- a tick asks for nothing that needs a telegram
-pub tick_asks : (r : Record) (time : ℕ) → 1 ≤ r.phase → r.phase ≤ 5 → on_tick (ticked r time) ≡ ticked r time
+pub tick_asks : (r : Record) (time : ℕ) → on_tick (ticked r time) ≡ ticked r time
 unfolding ticked run_out_verdict pick
-tick_asks r time l h =
+tick_asks r time =
     let own : Verdict → Type 0 = λ v. on_tick v ≡ v in
-    either own (run_out r time) _ _ (phases (λ (p : ℕ). on_tick (run_out_verdict p) ≡ run_out_verdict p) r.phase l h refl refl refl refl refl)
+    either own (run_out r time) _ _
+    (falls (λ _ p. own (run_out_verdict p)) r.phase refl refl refl refl refl refl refl (λ q h. rw (ne_eqb q 5 (λ e. omega arith), no_cell)))
     (either own (eqb r.phase 5) _ Nothing
-    (either own (idle_due r time) _ Nothing (phases (λ (p : ℕ). on_tick (ruled Timeout-snd p) ≡ ruled Timeout-snd p) r.phase l h refl refl refl refl refl) refl) refl)
-
--- an incorrect telegram closes in every phase but the closed one
-pub incorrect : (p : ℕ) → 2 ≤ p → p ≤ 5 → Close 0x06 false ≡ ruled Incorrect-rcv-1st p
-incorrect p l h =
-    phases (λ (q : ℕ). 2 ≤ q → Close 0x06 false ≡ ruled Incorrect-rcv-1st q) p (omega arith) h (λ m. absurd (omega arith)) (λ _. refl) (λ _. refl) (λ _. refl) (λ _. refl) l
-
--- a wait that fails during authentication closes finally
-pub unanswered : (p : ℕ) → 3 ≤ p → p ≤ 4 → Close 0x03 true ≡ ruled Timeout-brk p
-unfolding pick
-unanswered p l h =
-    phases (λ (q : ℕ). 3 ≤ q → q ≤ 4 → Close 0x03 true ≡ ruled Timeout-brk q) p (omega arith) (omega arith) (λ m _. absurd (omega arith)) (λ m _. absurd (omega arith))
-    (λ _ _. refl) (λ _ _. refl) (λ _ m. absurd (omega arith)) l h
-
-pub kind_ruled : (k h : Kind) (p : ℕ) (v : Verdict) → k ≡ h → v ≡ ruled (row_of h) p → v ≡ ruled (row_of k) p
-kind_ruled k h p v e q = rw e q
-
--- an idle telegram is due after a gap longer than any idle time
-pub due : (declared gap : ℕ) → (declared ≡ 0 → ⊥) → declared < 0x1_0000_0000 → 0x1_0000_0000 ≤ gap
-    → true ≡ pick (eqb declared 0) false (leb declared (2 * gap))
-due declared gap some small big = no (eqb declared 0) false (leb declared (2 * gap)) true (ne_eqb declared 0 some) (sym (le-leb declared (2 * gap) (omega arith)))
-
--- a choice by a test that a call told
-pub yes_by : {A : Type 0} (b c : Bool) (x y z : A) → b ≡ c → b ≡ true → z ≡ x → z ≡ pick c x y
-unfolding pick
-yes_by b c x y z p t e = rw (← p, t) e
-
-pub no_by : {A : Type 0} (b c : Bool) (x y z : A) → b ≡ c → b ≡ false → z ≡ y → z ≡ pick c x y
-unfolding pick
-no_by b c x y z p t e = rw (← p, t) e
-
-pub idle_ruled : (p : ℕ) → p ≡ 5 → SendIdle ≡ ruled Timeout-snd p
-unfolding pick
-idle_ruled p e = rw e
-
-pub quiet_is : (q p : Record) (e f : Event) (s : Step) → q ≡ p → e ≡ f → s ≡ quietly q e → s ≡ quietly p f
-quiet_is q p e f s a b h = rw (← a, ← b) h
+    (either own (idle_due r time) _ Nothing
+    (falls (λ _ p. own (ruled Timeout-snd p)) r.phase refl refl refl refl refl refl refl (λ q h. rw (ne_eqb q 4 (λ e. omega arith), no_cell))) refl) refl)
 
 -- what no refusal says of the first and the fourth test
 chain : (a b c d e f : Bool) → ◌≡◌ {A = ℕ} (pick a (pick b (pick c (pick d (pick e (pick f 0 5) 3) 8) 6) 4) 1) 0 → (a ≡ true) × (d ≡ true)
@@ -138,6 +154,3 @@ live_phase r own n room carried suited allowed p z =
   where
     below : (p : ℕ) → p ≤ 6 → (p ≡ 6 → ⊥) → p ≤ 5
     below p h d = omega arith
-
-pub happened_is : (e f : Event) (h : Happened) → e ≡ f → h ≡ happened f → h ≡ happened e
-happened_is e f h p q = rw p q

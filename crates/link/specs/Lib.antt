@@ -1,3 +1,4 @@
+pub mod Named
 pub mod Records
 pub mod Times
 pub mod Table

@@ -4,6 +4,7 @@ ghost use Rattle.ground.specs.Choice.{pick};
 ghost use Rattle.telegram.specs.Fields.{type_of, reason_of, low_of};
 ghost use Rattle.telegram.specs.NetData.{net_part};
 ghost use Rattle.telegram.specs.Writers.{answer_of, left_by, writes_disconnect, writes_idle};
+ghost use Rattle.link.specs.Named.{telegram_number};
 ghost use Rattle.link.specs.Records.{end_of, closed_by};
 ghost use Rattle.link.specs.Judged.{on_tick};
 ghost use Rattle.link.specs.Steps.{quietly, refused_step, writing_step, sent, act_of, act_out};
@@ -13,20 +14,25 @@ use crate::records::{after_sending, after_taking, closed_by, end_of};
 use crate::{Answer, Event, Record, Step, Verdict};
 use telegram::Written;
 
-// The telegrams, as an answer names them.
-pub(crate) const REQUEST: u32 = 1;
+// The telegrams, by the numbers that an answer has for them.
+#[derive(Clone, Copy, Debug, PartialEq, Eq)]
+pub(crate) enum Telegram {
+    Request = 1,
+    Confirm = 2,
+    Authentication = 3,
+    Acknowledgement = 4,
+    Disconnect = 5,
+    Idle = 6,
+    Data = 7,
+}
 
-pub(crate) const CONFIRM: u32 = 2;
-
-pub(crate) const AUTHENTICATION: u32 = 3;
-
-pub(crate) const ACKNOWLEDGEMENT: u32 = 4;
-
-pub(crate) const DISCONNECT: u32 = 5;
-
-pub(crate) const IDLE: u32 = 6;
-
-pub(crate) const DATA: u32 = 7;
+// What a confirm carries, should the telegram received ask for one.
+#[derive(Clone, Copy)]
+pub(crate) struct Offer<'a> {
+    pub(crate) random: u32,
+    pub(crate) declared: u32,
+    pub(crate) net: &'a [u8],
+}
 
 // A step that writes nothing.
 #[tactic(auto, unfolding(crate::specs::Steps::quietly))]
@@ -35,11 +41,7 @@ pub(crate) fn quiet_step(record: Record, event: Event) -> Step
 {
     Step {
         record,
-        answer: Answer {
-            number: 0,
-            telegram: 0,
-            length: 0,
-        },
+        answer: Answer::default(),
         event,
     }
 }
@@ -53,8 +55,7 @@ pub(crate) fn refused_step(number: u32, record: Record) -> Step
         record,
         answer: Answer {
             number,
-            telegram: 0,
-            length: 0,
+            ..Answer::default()
         },
         event: Event::Nothing,
     }
@@ -66,10 +67,10 @@ pub(crate) fn written_step(
     written: Written,
     old: Record,
     new: Record,
-    telegram: u32,
+    telegram: Telegram,
     event: Event,
 ) -> Step
-    ensures { result ≡ writing_step written old new telegram event }
+    ensures { result ≡ writing_step written old new (telegram_number telegram) event }
 {
     if written.answer != 0 {
         return refused_step(written.answer, old);
@@ -78,7 +79,7 @@ pub(crate) fn written_step(
         record: new,
         answer: Answer {
             number: 0,
-            telegram,
+            telegram: telegram as u32,
             length: written.length,
         },
         event,
@@ -86,62 +87,74 @@ pub(crate) fn written_step(
 }
 
 // A good request on a closed connection is confirmed.
+#[tactic(auto, using(crate::proofs::Cases::becomes))]
 fn confirm_step(
     record: Record,
     own: u32,
     time: u64,
-    random: u32,
-    declared: u32,
+    offer: Offer,
     telegram: &[u8],
-    net: &[u8],
     out: &mut [u8],
 ) -> Step
-    ensures { (result ≡ act_of Verdict.Confirm «record» own time random declared telegram.now net.now out.old) × (out.new ≡ act_out Verdict.Confirm «record» own random declared telegram.now net.now out.old) }
+    ensures { (result ≡ act_of Verdict.Confirm «record» own time offer.entry.random offer.entry.declared telegram.now offer.entry.net.now out.old) × (out.new ≡ act_out Verdict.Confirm «record» own offer.entry.random offer.entry.declared telegram.now offer.entry.net.now out.old) }
 {
+    let Offer {
+        random,
+        declared,
+        net,
+    } = offer;
     let end = end_of(record, own);
-    let mut r = record;
-    r.phase = AUTHENTICATION_AWAITED;
-    r.sending = std::num::wrapping_add_u32(random, 1);
-    r.expected = std::num::wrapping_add_u32(telegram::random_number(telegram), 1);
-    r.declared = declared;
-    r.watched = telegram::idle_time(telegram);
-    r.sent_at = time;
-    r.taken_at = time;
+    let r = Record {
+        phase: AUTHENTICATION_AWAITED,
+        sending: random.wrapping_add(1),
+        expected: telegram::random_number(telegram).wrapping_add(1),
+        declared,
+        watched: telegram::idle_time(telegram),
+        sent_at: time,
+        taken_at: time,
+        ..record
+    };
     let written = writers::write_confirm(out, end, random, declared, net);
-    written_step(written, record, r, CONFIRM, Event::Nothing)
+    written_step(written, record, r, Telegram::Confirm, Event::Nothing)
 }
 
 // A good confirm is answered with the authentication.
+#[tactic(auto, using(crate::proofs::Cases::becomes))]
 fn authenticate_step(record: Record, own: u32, time: u64, telegram: &[u8], out: &mut [u8]) -> Step
     ensures { (result ≡ act_of Verdict.Authenticate «record» own time 0 0 telegram.now [] out.old) × (out.new ≡ act_out Verdict.Authenticate «record» own 0 0 telegram.now [] out.old) }
 {
     let end = end_of(record, own);
     let received = telegram::random_number(telegram);
-    let mut r = record;
-    r.phase = ACKNOWLEDGEMENT_AWAITED;
-    r.sending = std::num::wrapping_add_u32(record.sending, 1);
-    r.expected = std::num::wrapping_add_u32(received, 1);
-    r.watched = telegram::idle_time(telegram);
-    r.sent_at = time;
-    r.taken_at = time;
+    let r = Record {
+        phase: ACKNOWLEDGEMENT_AWAITED,
+        sending: record.sending.wrapping_add(1),
+        expected: received.wrapping_add(1),
+        watched: telegram::idle_time(telegram),
+        sent_at: time,
+        taken_at: time,
+        ..record
+    };
     let written = writers::write_authentication(out, end, record.sending, received);
-    written_step(written, record, r, AUTHENTICATION, Event::Nothing)
+    written_step(written, record, r, Telegram::Authentication, Event::Nothing)
 }
 
 // A good authentication is acknowledged, and the connection is open.
+#[tactic(auto, using(crate::proofs::Cases::becomes))]
 fn acknowledge_step(record: Record, own: u32, time: u64, out: &mut [u8]) -> Step
     ensures { (result ≡ act_of Verdict.Acknowledge «record» own time 0 0 [] [] out.old) × (out.new ≡ act_out Verdict.Acknowledge «record» own 0 0 [] [] out.old) }
 {
     let end = end_of(record, own);
-    let received = std::num::wrapping_add_u32(record.expected, 0xFFFF_FFFF);
-    let mut r = record;
-    r.phase = OPEN;
-    r.sending = std::num::wrapping_add_u32(record.sending, 1);
-    r.expected = std::num::wrapping_add_u32(record.expected, 1);
-    r.sent_at = time;
-    r.taken_at = time;
+    let received = record.expected.wrapping_sub(1);
+    let r = Record {
+        phase: OPEN,
+        sending: record.sending.wrapping_add(1),
+        expected: record.expected.wrapping_add(1),
+        sent_at: time,
+        taken_at: time,
+        ..record
+    };
     let written = writers::write_acknowledgement(out, end, record.sending, received);
-    written_step(written, record, r, ACKNOWLEDGEMENT, Event::Opened)
+    written_step(written, record, r, Telegram::Acknowledgement, Event::Opened)
 }
 
 // Data for the layer above.
@@ -172,51 +185,35 @@ fn idle_step(record: Record, own: u32, time: u64, out: &mut [u8]) -> Step
     let end = end_of(record, own);
     let r = after_sending(record, time);
     let written = writers::write_idle(out, end, record.sending);
-    written_step(written, record, r, IDLE, Event::Nothing)
+    written_step(written, record, r, Telegram::Idle, Event::Nothing)
 }
 
-// New set-up desired, the disconnect's type: 0 where the disconnection is final.
-#[tactic(auto, using(ground::specs::Choice::tests))]
-fn new_setup_after(last: bool) -> u32
-    ensures { result ≡ pick last 0 1 }
-{
-    if last { 0 } else { 1 }
-}
-
-// A closing that a telegram asks for: the disconnect carries the number from before it.
+// A closing that a telegram asks for: the disconnect carries the number from before it, and desires a new set-up where it is not final.
+#[tactic(auto, unfolding(ground::specs::Choice::pick))]
 fn close_step(record: Record, own: u32, reason: u32, last: bool, out: &mut [u8]) -> Step
     ensures { (result ≡ writing_step (answer_of (writes_disconnect (end_of «record» own) «record».sending (pick last 0 1) reason [] out.old)) «record» (closed_by last «record») 5 (Event.Closed reason last)) × (out.new ≡ left_by (writes_disconnect (end_of «record» own) «record».sending (pick last 0 1) reason [] out.old) out.old) }
 {
     let end = end_of(record, own);
     let r = closed_by(last, record);
-    let new_setup = new_setup_after(last);
+    let new_setup = !last as u32;
     let written = writers::write_disconnect(out, end, record.sending, new_setup, reason, b"");
-    written_step(
-        written,
-        record,
-        r,
-        DISCONNECT,
-        Event::Closed { reason, last },
-    )
+    let event = Event::Closed { reason, last };
+    written_step(written, record, r, Telegram::Disconnect, event)
 }
 
 // The same for a tick, with its own lines on purpose: a function of this size that has two callers is compiled by itself, and record and step then go to it
 // and back through the stack of both (docs/DECISIONS.md, "Stack on the small card").
+#[tactic(auto, unfolding(ground::specs::Choice::pick))]
 fn close_on_tick(record: Record, own: u32, reason: u32, last: bool, out: &mut [u8]) -> Step
     ensures { (result ≡ writing_step (answer_of (writes_disconnect (end_of «record» own) «record».sending (pick last 0 1) reason [] out.old)) «record» (closed_by last «record») 5 (Event.Closed reason last)) × (out.new ≡ left_by (writes_disconnect (end_of «record» own) «record».sending (pick last 0 1) reason [] out.old) out.old) }
 {
     let end = end_of(record, own);
     let r = closed_by(last, record);
-    let new_setup = new_setup_after(last);
+    let new_setup = !last as u32;
     let number = record.sending;
     let written = writers::write_disconnect(out, end, number, new_setup, reason, b"");
-    written_step(
-        written,
-        record,
-        r,
-        DISCONNECT,
-        Event::Closed { reason, last },
-    )
+    let event = Event::Closed { reason, last };
+    written_step(written, record, r, Telegram::Disconnect, event)
 }
 
 // The step that a verdict on a telegram makes.
@@ -225,17 +222,15 @@ pub(crate) fn act(
     record: Record,
     own: u32,
     time: u64,
-    random: u32,
-    declared: u32,
+    offer: Offer,
     telegram: &[u8],
-    net: &[u8],
     out: &mut [u8],
 ) -> Step
-    ensures { (result ≡ act_of verdict «record» own time random declared telegram.now net.now out.old) × (out.new ≡ act_out verdict «record» own random declared telegram.now net.now out.old) }
+    ensures { (result ≡ act_of verdict «record» own time offer.entry.random offer.entry.declared telegram.now offer.entry.net.now out.old) × (out.new ≡ act_out verdict «record» own offer.entry.random offer.entry.declared telegram.now offer.entry.net.now out.old) }
 {
     match verdict {
         Verdict::Nothing => quiet_step(record, Event::Nothing),
-        Verdict::Confirm => confirm_step(record, own, time, random, declared, telegram, net, out),
+        Verdict::Confirm => confirm_step(record, own, time, offer, telegram, out),
         Verdict::Authenticate => authenticate_step(record, own, time, telegram, out),
         Verdict::Acknowledge => acknowledge_step(record, own, time, out),
         Verdict::Open => quiet_step(after_taking(record, time), Event::Opened),
@@ -260,13 +255,13 @@ pub(crate) fn act_on_tick(
     match verdict {
         Verdict::SendIdle => idle_step(record, own, time, out),
         Verdict::Close { reason, last } => close_on_tick(record, own, reason, last, out),
-        Verdict::Nothing => quiet_step(record, Event::Nothing),
-        Verdict::Confirm => quiet_step(record, Event::Nothing),
-        Verdict::Authenticate => quiet_step(record, Event::Nothing),
-        Verdict::Acknowledge => quiet_step(record, Event::Nothing),
-        Verdict::Open => quiet_step(record, Event::Nothing),
-        Verdict::Data => quiet_step(record, Event::Nothing),
-        Verdict::Idle => quiet_step(record, Event::Nothing),
-        Verdict::Disconnected => quiet_step(record, Event::Nothing),
+        Verdict::Nothing
+        | Verdict::Confirm
+        | Verdict::Authenticate
+        | Verdict::Acknowledge
+        | Verdict::Open
+        | Verdict::Data
+        | Verdict::Idle
+        | Verdict::Disconnected => quiet_step(record, Event::Nothing),
     }
 }

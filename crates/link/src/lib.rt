@@ -12,13 +12,13 @@ mod times;
 pub use phases::{
     ACKNOWLEDGEMENT_AWAITED, AUTHENTICATION_AWAITED, CLOSED, CONFIRM_AWAITED, FINALLY_CLOSED, OPEN,
 };
-pub use plain::{happened_as, idle_time_by};
+pub use plain::idle_time_by;
 pub use records::{fresh, record_in_range};
 pub use steps::{close, open, received, send, tick};
 
 // A connection, by plain numbers.
 #[repr(C)]
-#[derive(Clone, Copy)]
+#[derive(Clone, Copy, Debug, PartialEq, Eq)]
 pub struct Record {
     pub partner: u32,
     pub partner_sap: u32,
@@ -37,7 +37,7 @@ pub struct Record {
 }
 
 // What happened, for the layer above.
-#[derive(Clone, Copy)]
+#[derive(Clone, Copy, Debug, PartialEq, Eq)]
 pub enum Event {
     Nothing,
     Opened,
@@ -54,7 +54,7 @@ pub enum Event {
 
 // The answer's number, and which telegram was written (0 none, 1 request, 2 confirm, 3 authentication, 4 acknowledgement, 5 disconnect, 6 idle, 7 data) with its length.
 #[repr(C)]
-#[derive(Clone, Copy)]
+#[derive(Clone, Copy, Debug, Default, PartialEq, Eq)]
 pub struct Answer {
     pub number: u32,
     pub telegram: u32,
@@ -62,7 +62,7 @@ pub struct Answer {
 }
 
 // What a step leaves.
-#[derive(Clone, Copy)]
+#[derive(Clone, Copy, Debug, PartialEq, Eq)]
 pub struct Step {
     pub record: Record,
     pub answer: Answer,
@@ -71,7 +71,7 @@ pub struct Step {
 
 // An event as plain numbers: 0 nothing, 1 opened, 2 data, 3 closed; unused parts are 0.
 #[repr(C)]
-#[derive(Clone, Copy)]
+#[derive(Clone, Copy, Debug, Default, PartialEq, Eq)]
 pub struct Happened {
     pub event: u32,
     pub command: u32,
@@ -83,7 +83,7 @@ pub struct Happened {
 
 // A step as plain numbers.
 #[repr(C)]
-#[derive(Clone, Copy)]
+#[derive(Clone, Copy, Debug, PartialEq, Eq)]
 pub struct Stepped {
     pub record: Record,
     pub answer: Answer,
@@ -91,7 +91,7 @@ pub struct Stepped {
 }
 
 // What a received telegram or a tick asks for.
-#[derive(Clone, Copy)]
+#[derive(Clone, Copy, Debug, PartialEq, Eq)]
 pub enum Verdict {
     Nothing,
     Confirm,

@@ -1,8 +1,8 @@
 // What C says and is told in plain numbers: an idle time, and what happened.
 ghost use Rattle.std.specs.Prelude.{◌≡◌};
-ghost use Rattle.link.specs.Plain.{idle_time_by, happened};
+ghost use Rattle.link.specs.Plain.{idle_time_by, happened, plain};
 
-use crate::{Event, Happened};
+use crate::{Event, Happened, Step, Stepped};
 
 // An idle time is named where the flag is not 0.
 #[tactic(auto, unfolding(crate::specs::Plain::idle_time_by, ground::specs::Choice::pick))]
@@ -12,63 +12,47 @@ pub fn idle_time_by(named: u32, time: u32) -> Option<u32>
     (named != 0).then_some(time)
 }
 
+// What happened, as plain numbers.
 #[tactic(auto, unfolding(ground::specs::Choice::pick))]
-fn closed_as(reason: u32, last: bool) -> Happened
-    ensures { result ≡ happened (Event.Closed reason last) }
-{
-    if last {
-        return Happened {
-            event: 3,
-            command: 0,
-            start: 0,
-            count: 0,
-            reason,
-            last: 1,
-        };
-    }
-    Happened {
-        event: 3,
-        command: 0,
-        start: 0,
-        count: 0,
-        reason,
-        last: 0,
+impl From<Event> for Happened {
+    ghost from_gives = { λ e h. h ≡ happened e };
+
+    fn from(event: Event) -> Happened {
+        let unused = Happened::default();
+        match event {
+            Event::Nothing => unused,
+            Event::Opened => Happened { event: 1, ..unused },
+            Event::Data {
+                command,
+                start,
+                count,
+            } => Happened {
+                event: 2,
+                command,
+                start,
+                count,
+                ..unused
+            },
+            Event::Closed { reason, last } => Happened {
+                event: 3,
+                reason,
+                last: last as u32,
+                ..unused
+            },
+        }
     }
 }
 
-// What happened, as plain numbers.
-pub fn happened_as(event: Event) -> Happened
-    ensures { result ≡ happened event }
-{
-    match event {
-        Event::Nothing => Happened {
-            event: 0,
-            command: 0,
-            start: 0,
-            count: 0,
-            reason: 0,
-            last: 0,
-        },
-        Event::Opened => Happened {
-            event: 1,
-            command: 0,
-            start: 0,
-            count: 0,
-            reason: 0,
-            last: 0,
-        },
-        Event::Data {
-            command,
-            start,
-            count,
-        } => Happened {
-            event: 2,
-            command,
-            start,
-            count,
-            reason: 0,
-            last: 0,
-        },
-        Event::Closed { reason, last } => closed_as(reason, last),
+// A step as plain numbers.
+#[tactic(auto, unfolding(crate::specs::Plain::plain))]
+impl From<Step> for Stepped {
+    ghost from_gives = { λ s p. p ≡ plain s };
+
+    fn from(step: Step) -> Stepped {
+        Stepped {
+            record: step.record,
+            answer: step.answer,
+            happened: Happened::from(step.event),
+        }
     }
 }

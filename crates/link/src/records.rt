@@ -25,20 +25,14 @@ pub(crate) fn end_of(record: Record, own: u32) -> End
 fn is_phase(phase: u32) -> bool
     ensures { result ≡ is_phase phase }
 {
-    if phase < CLOSED {
-        return false;
-    }
-    phase <= FINALLY_CLOSED
+    matches!(phase, CLOSED..=FINALLY_CLOSED)
 }
 
 #[tactic(auto, using(ground::specs::Choice::tests), unfolding(crate::specs::Records::is_closed))]
 fn is_closed(phase: u32) -> bool
     ensures { result ≡ is_closed phase }
 {
-    if phase == CLOSED {
-        return true;
-    }
-    phase == FINALLY_CLOSED
+    matches!(phase, CLOSED | FINALLY_CLOSED)
 }
 
 // Whether numbers, idle times and timers are 0.
@@ -46,22 +40,12 @@ fn is_closed(phase: u32) -> bool
 fn at_rest(record: Record) -> bool
     ensures { result ≡ at_rest «record» }
 {
-    if record.sending != 0 {
-        return false;
-    }
-    if record.expected != 0 {
-        return false;
-    }
-    if record.declared != 0 {
-        return false;
-    }
-    if record.watched != 0 {
-        return false;
-    }
-    if record.sent_at != 0 {
-        return false;
-    }
-    record.taken_at == 0
+    record.sending == 0
+        && record.expected == 0
+        && record.declared == 0
+        && record.watched == 0
+        && record.sent_at == 0
+        && record.taken_at == 0
 }
 
 // Whether the record's own fields and the node's address are in range.
@@ -69,24 +53,11 @@ fn at_rest(record: Record) -> bool
 pub fn record_in_range(record: Record, own: u32) -> bool
     ensures { result ≡ record_in_range «record» own }
 {
-    let end = end_of(record, own);
-    if !telegram::in_range(end) {
-        return false;
-    }
-    if !is_phase(record.phase) {
-        return false;
-    }
-    if !telegram::good_idle(record.declared) {
-        return false;
-    }
-    if !telegram::good_idle(record.watched) {
-        return false;
-    }
-    if is_closed(record.phase) {
-        at_rest(record)
-    } else {
-        true
-    }
+    telegram::in_range(end_of(record, own))
+        && is_phase(record.phase)
+        && telegram::good_idle(record.declared)
+        && telegram::good_idle(record.watched)
+        && (!is_closed(record.phase) || at_rest(record))
 }
 
 // A record that has never been used.
@@ -110,39 +81,42 @@ pub fn fresh(partner: u32, partner_sap: u32, local_sap: u32, level: u32) -> Reco
 }
 
 // The same connection, closed.
+#[tactic(auto, using(ground::specs::Choice::tests, crate::proofs::Cases::becomes), unfolding(crate::specs::Records::closed_by, crate::specs::Records::fresh_of))]
 pub(crate) fn closed_by(last: bool, record: Record) -> Record
     ensures { result ≡ closed_by last «record» }
 {
-    let mut r = fresh(
+    let phase = if last { FINALLY_CLOSED } else { CLOSED };
+    let closed = fresh(
         record.partner,
         record.partner_sap,
         record.local_sap,
         record.level,
     );
-    if last {
-        r.phase = FINALLY_CLOSED;
-    }
-    r
+    Record { phase, ..closed }
 }
 
 // The same open connection after a telegram was taken.
+#[tactic(auto, using(crate::proofs::Cases::becomes), unfolding(crate::specs::Steps::taken))]
 pub(crate) fn after_taking(record: Record, time: u64) -> Record
     ensures { result ≡ taken «record» time }
 {
-    let mut r = record;
-    r.phase = OPEN;
-    r.expected = std::num::wrapping_add_u32(record.expected, 1);
-    r.taken_at = time;
-    r
+    Record {
+        phase: OPEN,
+        expected: record.expected.wrapping_add(1),
+        taken_at: time,
+        ..record
+    }
 }
 
 // The same open connection after a telegram was sent.
+#[tactic(auto, using(crate::proofs::Cases::becomes), unfolding(crate::specs::Steps::sent))]
 pub(crate) fn after_sending(record: Record, time: u64) -> Record
     ensures { result ≡ sent «record» time }
 {
-    let mut r = record;
-    r.phase = OPEN;
-    r.sending = std::num::wrapping_add_u32(record.sending, 1);
-    r.sent_at = time;
-    r
+    Record {
+        phase: OPEN,
+        sending: record.sending.wrapping_add(1),
+        sent_at: time,
+        ..record
+    }
 }

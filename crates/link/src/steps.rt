@@ -1,14 +1,16 @@
 // The five steps over one record: open, close, send, received, tick. Each writes at most one telegram into the lent buffer; a refused step changes nothing.
 ghost use Rattle.std.specs.Prelude.{◌≡◌, nat_le};
 ghost use Rattle.telegram.specs.Layout.{longest};
-ghost use Rattle.link.specs.Records.{become};
+ghost use Rattle.link.specs.Named.{number_of};
+ghost use Rattle.link.specs.Records.{become, record_in_range};
 ghost use Rattle.link.specs.Steps.{next, neb, first_refusal, declared_by, open_of, open_out, close_of, close_out, send_of, send_out, received_of, received_out, tick_of, tick_out};
 
-use crate::act::{DATA, DISCONNECT, REQUEST, act, act_on_tick, refused_step, written_step};
+use crate::act::{Offer, Telegram, act, act_on_tick, refused_step, written_step};
 use crate::judge::{judge, judge_tick};
 use crate::phases::{CLOSED, CONFIRM_AWAITED, FINALLY_CLOSED, OPEN};
 use crate::records::{after_sending, closed_by, end_of, record_in_range};
 use crate::{Event, Record, Step};
+use telegram::Refusal;
 
 // The idle time that an opening or a confirm declares when none is named.
 const UNNAMED: u32 = 1000;
@@ -20,62 +22,50 @@ fn declared_by(idle: Option<u32>) -> u32
     idle.unwrap_or(UNNAMED)
 }
 
-#[tactic(auto, using(ground::specs::Choice::tests))]
-fn is_not(x: u32, y: u32) -> bool
-    ensures { result ≡ neb x y }
-{
-    if x == y { false } else { true }
-}
-
-fn has_room(room: usize) -> bool
-    ensures { result ≡ nat_le longest room }
-{
-    telegram::LONGEST <= room
-}
-
-// The first refusal that holds, or 0.
+// The first refusal that holds of a step, in the scope's order.
 #[tactic(auto, using(ground::specs::Choice::tests), unfolding(crate::specs::Steps::first_refusal))]
 fn first_refusal(
-    ranged: bool,
-    room: bool,
+    record: Record,
+    own: u32,
+    room: usize,
     carried: bool,
-    live: bool,
     suited: bool,
     allowed: bool,
-) -> u32
-    ensures { result ≡ first_refusal ranged room carried live suited allowed }
+) -> Result<(), Refusal>
+    ensures { number_of result ≡ first_refusal (record_in_range «record» own) (nat_le longest room) carried (neb «record».phase 6) suited allowed }
 {
-    if !ranged {
-        return 1;
+    if !record_in_range(record, own) {
+        Err(Refusal::OutOfRange)
+    } else if room < telegram::LONGEST {
+        Err(Refusal::NoRoom)
+    } else if !carried {
+        Err(Refusal::BadTelegram)
+    } else if record.phase == FINALLY_CLOSED {
+        Err(Refusal::Ended)
+    } else if !suited {
+        Err(Refusal::WrongPhase)
+    } else if !allowed {
+        Err(Refusal::BadValue)
+    } else {
+        Ok(())
     }
-    if !room {
-        return 4;
-    }
-    if !carried {
-        return 6;
-    }
-    if !live {
-        return 8;
-    }
-    if !suited {
-        return 3;
-    }
-    if allowed { 0 } else { 5 }
 }
 
 // The record of a connection whose request has gone out.
+#[tactic(auto, using(crate::proofs::Cases::becomes))]
 fn after_request(record: Record, time: u64, random: u32, declared: u32) -> Record
     ensures { result ≡ become «record» 2 (next random) 0 declared 0 time 0 }
 {
-    let mut r = record;
-    r.phase = CONFIRM_AWAITED;
-    r.sending = std::num::wrapping_add_u32(random, 1);
-    r.expected = 0;
-    r.declared = declared;
-    r.watched = 0;
-    r.sent_at = time;
-    r.taken_at = 0;
-    r
+    Record {
+        phase: CONFIRM_AWAITED,
+        sending: random.wrapping_add(1),
+        expected: 0,
+        declared,
+        watched: 0,
+        sent_at: time,
+        taken_at: 0,
+        ..record
+    }
 }
 
 // Opens a closed connection: a request goes out under the random number, and a confirm is awaited.
@@ -93,18 +83,14 @@ pub fn open(
 {
     let declared = declared_by(idle);
     let allowed = writers::connect_allowed(declared, net.len(), record.level);
-    let live = is_not(record.phase, FINALLY_CLOSED);
     let suited = record.phase == CLOSED;
-    let ranged = record_in_range(record, own);
-    let room = has_room(out.len());
-    let answer = first_refusal(ranged, room, true, live, suited, allowed);
-    if answer != 0 {
-        return refused_step(answer, record);
+    if let Err(refusal) = first_refusal(record, own, out.len(), true, suited, allowed) {
+        return refused_step(refusal as u32, record);
     }
     let end = end_of(record, own);
     let r = after_request(record, time, random, declared);
     let written = writers::write_request(out, end, random, declared, net);
-    written_step(written, record, r, REQUEST, Event::Nothing)
+    written_step(written, record, r, Telegram::Request, Event::Nothing)
 }
 
 // Closes a connection: a disconnect goes out with the layer above's type, reason and text.
@@ -120,25 +106,16 @@ pub fn close(
     ensures { (result ≡ close_of «record» own new_setup reason text.now out.old) × (out.new ≡ close_out «record» own new_setup reason text.now out.old) }
 {
     let allowed = writers::disconnect_allowed(new_setup, reason, text.len(), record.level);
-    let live = is_not(record.phase, FINALLY_CLOSED);
-    let suited = is_not(record.phase, CLOSED);
-    let ranged = record_in_range(record, own);
-    let room = has_room(out.len());
-    let answer = first_refusal(ranged, room, true, live, suited, allowed);
-    if answer != 0 {
-        return refused_step(answer, record);
+    let suited = record.phase != CLOSED;
+    if let Err(refusal) = first_refusal(record, own, out.len(), true, suited, allowed) {
+        return refused_step(refusal as u32, record);
     }
     let end = end_of(record, own);
     let last = new_setup == 0;
     let r = closed_by(last, record);
     let written = writers::write_disconnect(out, end, record.sending, new_setup, reason, text);
-    written_step(
-        written,
-        record,
-        r,
-        DISCONNECT,
-        Event::Closed { reason, last },
-    )
+    let event = Event::Closed { reason, last };
+    written_step(written, record, r, Telegram::Disconnect, event)
 }
 
 // Sends data on an open connection, under the command's low six bits. Neither wait nor watch is looked at.
@@ -147,22 +124,18 @@ pub fn send(record: Record, own: u32, time: u64, command: u32, net: &[u8], out: 
     ensures { (result ≡ send_of «record» own time command net.now out.old) × (out.new ≡ send_out «record» own command net.now out.old) }
 {
     let allowed = writers::data_allowed(command, net.len(), record.level);
-    let live = is_not(record.phase, FINALLY_CLOSED);
     let suited = record.phase == OPEN;
-    let ranged = record_in_range(record, own);
-    let room = has_room(out.len());
-    let answer = first_refusal(ranged, room, true, live, suited, allowed);
-    if answer != 0 {
-        return refused_step(answer, record);
+    if let Err(refusal) = first_refusal(record, own, out.len(), true, suited, allowed) {
+        return refused_step(refusal as u32, record);
     }
     let end = end_of(record, own);
     let r = after_sending(record, time);
     let written = writers::write_data(out, end, record.sending, command, net);
-    written_step(written, record, r, DATA, Event::Nothing)
+    written_step(written, record, r, Telegram::Data, Event::Nothing)
 }
 
 // Takes a telegram. The random number, the idle time and the net data are for a possible confirm.
-#[tactic(auto, using(ground::specs::Choice::tests, crate::proofs::Cases::live_phase), unfolding(crate::specs::Steps::received_of, crate::specs::Steps::received_out, crate::specs::Steps::received_refusal))]
+#[tactic(auto, using(ground::specs::Choice::tests), unfolding(crate::specs::Steps::received_of, crate::specs::Steps::received_out, crate::specs::Steps::received_refusal))]
 pub fn received(
     record: Record,
     own: u32,
@@ -177,31 +150,26 @@ pub fn received(
 {
     let declared = declared_by(idle);
     let allowed = writers::connect_allowed(declared, net.len(), record.level);
-    let live = is_not(record.phase, FINALLY_CLOSED);
     let carried = telegram::on_bus(telegram.len());
-    let ranged = record_in_range(record, own);
-    let room = has_room(out.len());
-    let answer = first_refusal(ranged, room, carried, live, true, allowed);
-    if answer != 0 {
-        return refused_step(answer, record);
+    if let Err(refusal) = first_refusal(record, own, out.len(), carried, true, allowed) {
+        return refused_step(refusal as u32, record);
     }
     let verdict = judge(record, own, time, telegram);
-    act(
-        verdict, record, own, time, random, declared, telegram, net, out,
-    )
+    let offer = Offer {
+        random,
+        declared,
+        net,
+    };
+    act(verdict, record, own, time, offer, telegram, out)
 }
 
 // Lets time pass: a wait or watch that ran out closes, and an idle telegram goes out when it is due.
-#[tactic(auto, using(ground::specs::Choice::tests, crate::proofs::Cases::live_phase), unfolding(crate::specs::Steps::tick_of, crate::specs::Steps::tick_out, crate::specs::Steps::tick_refusal))]
+#[tactic(auto, using(ground::specs::Choice::tests, crate::proofs::Cases::tick_asks), unfolding(crate::specs::Steps::tick_of, crate::specs::Steps::tick_out, crate::specs::Steps::tick_refusal))]
 pub fn tick(record: Record, own: u32, time: u64, out: &mut [u8]) -> Step
     ensures { (result ≡ tick_of «record» own time out.old) × (out.new ≡ tick_out «record» own time out.old) }
 {
-    let live = is_not(record.phase, FINALLY_CLOSED);
-    let ranged = record_in_range(record, own);
-    let room = has_room(out.len());
-    let answer = first_refusal(ranged, room, true, live, true, true);
-    if answer != 0 {
-        return refused_step(answer, record);
+    if let Err(refusal) = first_refusal(record, own, out.len(), true, true, true) {
+        return refused_step(refusal as u32, record);
     }
     let verdict = judge_tick(record, time);
     act_on_tick(verdict, record, own, time, out)

@@ -5,20 +5,7 @@ ghost use Rattle.std.specs.Prelude.{◌≡◌};
 ghost use Rattle.link.specs.Steps.{open_of, open_out, close_of, close_out, send_of, send_out, received_of, received_out, tick_of, tick_out};
 ghost use Rattle.link.specs.Plain.{idle_time_by, plain};
 
-use link::{Record, Step, Stepped};
-
-fn plain_step(step: Step) -> Stepped
-    ensures { result ≡ plain step }
-{
-    let record = step.record;
-    let answer = step.answer;
-    let event = step.event;
-    Stepped {
-        record,
-        answer,
-        happened: link::happened_as(event),
-    }
-}
+use link::{Record, Stepped};
 
 #[unsafe(no_mangle)]
 pub extern "C" fn uj_link_open(
@@ -34,8 +21,7 @@ pub extern "C" fn uj_link_open(
     ensures { (result ≡ plain (open_of «record» own time random (idle_time_by named idle_time) net.now out.old)) × (out.new ≡ open_out «record» own random (idle_time_by named idle_time) net.now out.old) }
 {
     let idle = link::idle_time_by(named, idle_time);
-    let step = link::open(record, own, time, random, idle, net, out);
-    plain_step(step)
+    Stepped::from(link::open(record, own, time, random, idle, net, out))
 }
 
 #[unsafe(no_mangle)]
@@ -49,8 +35,7 @@ pub extern "C" fn uj_link_close(
 ) -> Stepped
     ensures { (result ≡ plain (close_of «record» own new_setup reason text.now out.old)) × (out.new ≡ close_out «record» own new_setup reason text.now out.old) }
 {
-    let step = link::close(record, own, new_setup, reason, text, out);
-    plain_step(step)
+    Stepped::from(link::close(record, own, new_setup, reason, text, out))
 }
 
 #[unsafe(no_mangle)]
@@ -64,8 +49,7 @@ pub extern "C" fn uj_link_send(
 ) -> Stepped
     ensures { (result ≡ plain (send_of «record» own time command net.now out.old)) × (out.new ≡ send_out «record» own command net.now out.old) }
 {
-    let step = link::send(record, own, time, command, net, out);
-    plain_step(step)
+    Stepped::from(link::send(record, own, time, command, net, out))
 }
 
 #[unsafe(no_mangle)]
@@ -83,14 +67,12 @@ pub extern "C" fn uj_link_received(
     ensures { (result ≡ plain (received_of «record» own time random (idle_time_by named idle_time) telegram.now net.now out.old)) × (out.new ≡ received_out «record» own time random (idle_time_by named idle_time) telegram.now net.now out.old) }
 {
     let idle = link::idle_time_by(named, idle_time);
-    let step = link::received(record, own, time, random, idle, telegram, net, out);
-    plain_step(step)
+    Stepped::from(link::received(record, own, time, random, idle, telegram, net, out))
 }
 
 #[unsafe(no_mangle)]
 pub extern "C" fn uj_link_tick(record: Record, own: u32, time: u64, out: &mut [u8]) -> Stepped
     ensures { (result ≡ plain (tick_of «record» own time out.old)) × (out.new ≡ tick_out «record» own time out.old) }
 {
-    let step = link::tick(record, own, time, out);
-    plain_step(step)
+    Stepped::from(link::tick(record, own, time, out))
 }

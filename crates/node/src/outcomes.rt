@@ -89,7 +89,7 @@ pub fn plain_outcome(outcome: Outcome) -> PlainOutcome
         return PlainOutcome {
             head,
             answer,
-            happened: link::happened_as(event),
+            happened: Happened::from(event),
         };
     };
     PlainOutcome {

@@ -2,7 +2,7 @@
 // part of the library.
 #![tactic(auto)]
 
-use link::{Answer, Event, Record};
+use link::{Answer, Event, Happened, Record};
 use std::io;
 use std::io::Write;
 
@@ -41,7 +41,7 @@ pub fn answered(to: &mut impl Write, answer: Answer) -> io::Result<()> {
 
 // The event, and the values that it has.
 pub fn happened(to: &mut impl Write, event: Event) -> io::Result<()> {
-    let h = link::happened_as(event);
+    let h = Happened::from(event);
     number(to, b" event ", h.event)?;
     if h.event == 2 {
         number(to, b" command ", h.command)?;
