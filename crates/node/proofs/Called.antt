@@ -1,58 +1,76 @@
--- What the code of a call does, as `called` says it: it asks for the refusal, and is refused or takes the step of the record.
+-- What the code that all calls share does, as `called` says it: a call is refused before its record is looked at, or takes the step of the record.
 -- Assumes nothing.
-use mathlib.Core.Path.{◌≡◌, refl, ap, ◌∙◌}
+use mathlib.Core.Path.{◌≡◌, refl, sym, ap, ◌∙◌}
 use mathlib.Core.Bool.{Bool, true, false, not}
 use mathlib.Core.List.{List}
-use Prim.Native.Nat.{ℕ, ◌<◌, ◌≤◌}
-use native.Mathlib.Omega.{arith}
+use Prim.Native.Nat.{ℕ, ◌<◌, ◌+◌}
 use lib.ListN.{length, set}
-use lib.Dec.{T, leb, ltb, eqb, ltb→lt}
-use borrow.Author.Tests.{ne_eqb, eq-eqb, eqb-false}
-use Rattle.telegram.specs.Layout.{longest}
+use lib.Dec.{T, ltb, eqb}
+use borrow.Author.Tests.{eq-eqb, lt-ltb}
+use denote.Enum.Declared.{tag_of}
+use Rattle.telegram.specs.contracts.Refusal.{the_type}
+use Rattle.telegram.specs.declared.Refusal.{Refusal}
+use Rattle.telegram.specs.declared.Refusal.TheVariants.{OutOfRange, NoRecord, WrongPhase, NoRoom, BadValue, BadTelegram, TimeBackwards, Ended}
 use Rattle.link.specs.declared.Step.{Step}
 use Rattle.link.specs.declared.Record.{Record}
 use Rattle.node.specs.declared.Head.{Head}
 use Rattle.node.specs.declared.Outcome.{Outcome}
-use Rattle.node.specs.Accepted.{record_at, accepted}
-use Rattle.node.specs.Refusals.{before}
+use Rattle.node.specs.Accepted.{record_at}
+use Rattle.node.specs.Matching.{place_in}
+use Rattle.node.specs.Refusals.{number_of, before}
 use Rattle.node.specs.Calls.{Call, place_of, carried_by, step_of, step_out, refused_outcome, settled}
-use Rattle.node.proofs.Order.{Said, all_fine, refused_by_table, left_by_step}
+use Rattle.node.proofs.Order.{Said, refused_by_table, left_by_step}
 
--- the place is the call's, whether the telegram's length is carried too, and n is the refusal before the record is looked at
-module _ (c : Call) (h : Head) (t : List Record) (time : ℕ) (d : List ℕ) (place : ℕ) (carried : Bool) (n : ℕ) where
-  abbrev pub Asks : Type 0
-  Asks = (place ≡ place_of c t) × ((carried ≡ carried_by c) × (n ≡ before h t time (length d) carried place))
+-- a refusal's number is the one that the code has of it, and no refusal's is 0
+pub number_is : (e : Refusal) → tag_of the_type e + 1 ≡ number_of e
+number_is OutOfRange = refl
+number_is NoRecord = refl
+number_is WrongPhase = refl
+number_is NoRoom = refl
+number_is BadValue = refl
+number_is BadTelegram = refl
+number_is TimeBackwards = refl
+number_is Ended = refl
 
-  abbrev of_call : ℕ
-  of_call = before h t time (length d) (carried_by c) (place_of c t)
+number_not_zero : (e : Refusal) → eqb (number_of e) 0 ≡ false
+number_not_zero OutOfRange = refl
+number_not_zero NoRecord = refl
+number_not_zero WrongPhase = refl
+number_not_zero NoRoom = refl
+number_not_zero BadValue = refl
+number_not_zero BadTelegram = refl
+number_not_zero TimeBackwards = refl
+number_not_zero Ended = refl
 
-  asked_is : Asks → n ≡ of_call
-  asked_is a = a.1.1 ∙ ap (λ b. before h t time (length d) b place) a.1.0 ∙ ap (λ i. before h t time (length d) (carried_by c) i) a.0
+-- two places that the table has or has not alike
+there_alike : (t : List Record) (i k : ℕ) → place_in t i ≡ place_in t k → ltb i (length t) ≡ ltb k (length t)
+there_alike t i k e = by (ltb i (length t)) (ltb k (length t)) refl refl
+  where
+    by : (a b : Bool) → ltb i (length t) ≡ a → ltb k (length t) ≡ b → ltb i (length t) ≡ ltb k (length t)
+    by true true p q = p ∙ sym q
+    by false false p q = p ∙ sym q
+    by true false p q = let f = rw (p, q) at e in cc
+    by false true p q = let f = rw (p, q) at e in cc
 
-  no_refusal : Asks → n ≡ 0 → T (eqb of_call 0)
-  no_refusal a z = let e : eqb of_call 0 ≡ true = rw (← asked_is a) (eq-eqb n 0 z) in rw e tt
+same_place : (t : List Record) (i k : ℕ) → place_in t i ≡ place_in t k → i < length t → i ≡ k
+same_place t i k e l = let p = lt-ltb i (length t) l in let q = sym (there_alike t i k e) ∙ p in let f = rw (p, q) at e in cc
 
+module _ (c : Call) (h : Head) (t : List Record) (time : ℕ) (d : List ℕ) where
   -- it is refused: table and buffer as they were
-  pub call_refused : Asks → (n ≡ 0 → ⊥) → (u : Outcome) → u ≡ refused_outcome n h → Said c h t time d u t d
-  call_refused a z u e =
-      let f : eqb of_call 0 ≡ false = rw (← asked_is a) (ne_eqb n 0 z) in let g : T (not (eqb of_call 0)) = rw f tt in
-      let said = refused_by_table c h t time d g in (e ∙ ap (λ m. refused_outcome m h) (asked_is a) ∙ said.0, said.1)
+  pub call_refused : (place : ℕ) (carried : Bool) (e : Refusal) (u : Outcome) → place_in t place ≡ place_in t (place_of c t) → carried ≡ carried_by c
+      → number_of e ≡ before h t time (length d) carried place → u ≡ refused_outcome (tag_of the_type e + 1) h → Said c h t time d u t d
+  unfolding before
+  call_refused place carried e u same k n is =
+      let m : number_of e ≡ before h t time (length d) (carried_by c) (place_of c t) = rw (← k, ← there_alike t place (place_of c t) same) n in
+      let f = number_not_zero e in let g : T (not (eqb (before h t time (length d) (carried_by c) (place_of c t)) 0)) = rw (← m, f) tt in
+      let said = refused_by_table c h t time d g in (is ∙ ap (λ x. refused_outcome x h) (number_is e ∙ m) ∙ said.0, said.1)
 
   -- else the record has what the step leaves
-  pub call_done : Asks → n ≡ 0 → (s : Step) (out : List ℕ) → (s ≡ step_of c (record_at t place) h.own time d) × (out ≡ step_out c (record_at t place) h.own time d)
-      → (u : Outcome) → u ≡ settled s h time → Said c h t time d u (set t place s.«record») out
-  call_done a z s out is u e =
-      let said = left_by_step c h t time d (no_refusal a z) in let i = rw a.0 at is in
-      rw a.0 (e ∙ ap (λ x. settled x h time) i.0 ∙ said.0, (ap (λ x. set t (place_of c t) x.«record») i.0 ∙ said.1.0, i.1 ∙ said.1.1))
-
--- a place past the table's end is refused
-pub placed_before : (h : Head) (t : List Record) (time room : ℕ) (carried : Bool) (place : ℕ) → length t ≤ place → 0 < before h t time room carried place
-unfolding before
-placed_before h t time room carried place l = by (eqb (before h t time room carried place) 0) refl
-  where
-    by : (b : Bool) → eqb (before h t time room carried place) 0 ≡ b → 0 < before h t time room carried place
-    by false e = let ne = eqb-false (before h t time room carried place) 0 e in omega arith
-    by true e =
-        let z : T (eqb (before h t time room carried place) 0) = rw e tt in
-        let fine = all_fine (accepted h t) (leb longest room) (leb h.latest time) carried (ltb place (length t)) z in
-        let p = ltb→lt place (length t) (rw fine.placed tt) in absurd (omega arith)
+  pub call_done : (i : ℕ) (carried : Bool) (s : Step) (out : List ℕ) (u : Outcome) → place_in t i ≡ place_in t (place_of c t) → carried ≡ carried_by c → i < length t
+      → before h t time (length d) carried i ≡ 0 → (s ≡ step_of c (record_at t i) h.own time d) × (out ≡ step_out c (record_at t i) h.own time d)
+      → u ≡ settled s h time → Said c h t time d u (set t i s.«record») out
+  call_done i carried s out u same k l n left is =
+      let p = same_place t i (place_of c t) same l in
+      let z : T (eqb (before h t time (length d) (carried_by c) (place_of c t)) 0) = let f = eq-eqb _ 0 (rw (k, p) at n) in rw f tt in
+      let said = left_by_step c h t time d z in let moved = rw p at left in
+      rw p (is ∙ ap (λ x. settled x h time) moved.0 ∙ said.0, (ap (λ x. set t (place_of c t) x.«record») moved.0 ∙ said.1.0, moved.1 ∙ said.1.1))

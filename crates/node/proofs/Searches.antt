@@ -1,15 +1,14 @@
--- The searches, one record after the other: a search that has passed i records is the search of the rest.
+-- The searches, one record after the other: as std's words say them, and as the definitions of specs/ do.
 -- Assumes nothing.
-use Prim.Native.Nat.{ℕ, zero, suc, ◌+◌, ◌<◌, ◌≤◌}
-use native.Mathlib.Numerals.{add-one}
-use native.Mathlib.Omega.{arith}
+use Prim.Native.Nat.{ℕ, suc, ◌+◌, ◌<◌, ◌≤◌}
+use native.Mathlib.Numerals.{add-one, one-add}
 use mathlib.Core.Path.{◌≡◌, refl, sym, ◌∙◌, ap}
-use mathlib.Core.Bool.{Bool, true, false}
+use mathlib.Core.Bool.{Bool, true, false, cond, ◌&&◌}
 use mathlib.Core.List.{List}
 use lib.ListN.{length, drop, drop_of_length-le}
 use lib.Seq.{drop-cons}
-use lib.Dec.{leb}
-use borrow.Author.Tests.{le-leb, lt-leb}
+use Rattle.std.specs.List.{list_all, position_or_len}
+use Rattle.std.proofs.lemmas.List.Recursion.{same_from_clauses, is_position_or_len}
 use Rattle.ground.specs.Choice.{pick, yes, no}
 use Rattle.link.specs.declared.Record.{Record}
 use Rattle.node.specs.declared.Head.{Head}
@@ -23,64 +22,45 @@ pick_true z a b h = sym (yes z a b a h refl)
 pub pick_false : {X : Type 0} (z : Bool) (a b : X) → z ≡ false → pick z a b ≡ b
 pick_false z a b h = sym (no z a b b h refl)
 
--- the first record that a telegram is for: none of the first i is
-module _ (w : Route) (t : List Record) (i : ℕ) where
-  abbrev pub Passed : Type 0
-  Passed = first_match w t ≡ i + first_match w (drop i t)
+-- whether every record is accepted
+pub all_is : (h : Head) (t : List Record) → list_all (record_accepted h) t ≡ all_accepted h t
+unfolding pick
+all_is h = same_from_clauses (list_all (record_accepted h)) (all_accepted h) (λ r b. record_accepted h r && b) refl (λ r rs. refl) (λ r rs. and_by (record_accepted h r) (all_accepted h rs))
+  where
+    and_by : (b c : Bool) → pick b c false ≡ (b && c)
+    and_by true c = refl
+    and_by false c = refl
 
-  pub found_here : i < length t → is_for w (record_at t i) ≡ true → Passed → i ≡ first_match w t
-  found_here h m e = let z : first_match w (drop i t) ≡ 0 = ap (first_match w) (drop-cons t i nowhere h) ∙ pick_true (is_for w (record_at t i)) zero _ m in omega arith
+-- the first record that a telegram is for
+pub first_is : (w : Route) (t : List Record) → position_or_len (is_for w) t ≡ first_match w t
+unfolding pick
+first_is w t = sym (is_position_or_len (first_match w) (is_for w) refl (λ r rs. chosen (is_for w r) (first_match w rs)) t)
+  where
+    chosen : (b : Bool) (n : ℕ) → pick b 0 (suc n) ≡ cond b 0 (1 + n)
+    chosen true n = refl
+    chosen false n = sym (one-add n)
 
-  pub found_later : i < length t → is_for w (record_at t i) ≡ false → Passed → first_match w t ≡ (i + 1) + first_match w (drop (i + 1) t)
-  found_later h m e =
-      let z : first_match w (drop i t) ≡ suc (first_match w (drop (suc i) t)) = ap (first_match w) (drop-cons t i nowhere h) ∙ pick_false (is_for w (record_at t i)) zero _ m in
-      rw add-one (omega arith)
+-- whether two records of t are alike: none that begins before a, and none of a with one of the first i that follow it
+module _ (t : List Record) (a : Record) (rest : List Record) where
+  abbrev pub Passed : ℕ → Type 0
+  Passed i = has_pair t ≡ pick (has_like a (drop i rest)) true (has_pair rest)
 
--- whether every record is accepted: the first i are
-module _ (h : Head) (t : List Record) (i : ℕ) where
-  abbrev pub Good : Type 0
-  Good = all_accepted h t ≡ all_accepted h (drop i t)
-
-  pub good_all : length t ≤ i → Good → leb (length t) i ≡ all_accepted h t
-  good_all l e = le-leb (length t) i l ∙ sym (e ∙ ap (all_accepted h) (drop_of_length-le t l))
-
-  abbrev good : Bool
-  good = record_accepted h (record_at t i)
-
-  pub good_not : i < length t → good ≡ false → Good → leb (length t) i ≡ all_accepted h t
-  good_not l m e = lt-leb (length t) i l ∙ sym (e ∙ ap (all_accepted h) (drop-cons t i nowhere l) ∙ pick_false good _ false m)
-
-  pub good_later : i < length t → good ≡ true → Good → all_accepted h t ≡ all_accepted h (drop (i + 1) t)
-  good_later l m e = rw add-one (e ∙ ap (all_accepted h) (drop-cons t i nowhere l) ∙ pick_true good _ false m)
-
--- whether two records are alike
-module _ (t : List Record) (i : ℕ) where
-  -- no pair begins before i
-  abbrev pub Outer : Type 0
-  Outer = has_pair t ≡ has_pair (drop i t)
-
-  abbrev Rest : Bool
-  Rest = has_pair (drop (i + 1) t)
-
-  -- nor at i with a record before j
-  abbrev pub Inner : ℕ → Type 0
-  Inner j = has_pair t ≡ pick (has_like (record_at t i) (drop j t)) true Rest
-
-  module _ (j : ℕ) where
+  module _ (i : ℕ) where
     abbrev here : Bool
-    here = alike (record_at t i) (record_at t j)
+    here = alike a (record_at rest i)
 
-    at_j : j < length t → Inner j → has_pair t ≡ pick (pick here true (has_like (record_at t i) (drop (suc j) t))) true Rest
-    at_j h e = e ∙ ap (λ (m : List Record). pick (has_like (record_at t i) m) true Rest) (drop-cons t j nowhere h)
+    next_pair : i < length rest → Passed i → has_pair t ≡ pick (pick here true (has_like a (drop (suc i) rest))) true (has_pair rest)
+    next_pair l e = e ∙ ap (λ (m : List Record). pick (has_like a m) true (has_pair rest)) (drop-cons rest i nowhere l)
 
-    pub inner_here : j < length t → here ≡ true → Inner j → true ≡ has_pair t
+    pub pair_here : i < length rest → here ≡ true → Passed i → true ≡ has_pair t
     unfolding pick
-    inner_here h m e = sym (at_j h e ∙ ap (λ (z : Bool). pick z true Rest) (pick_true here true _ m))
+    pair_here l m e = sym (next_pair l e ∙ ap (λ (z : Bool). pick z true (has_pair rest)) (pick_true here true _ m))
 
-    pub inner_later : j < length t → here ≡ false → Inner j → Inner (j + 1)
-    inner_later h m e =
-        at_j h e ∙ ap (λ (z : Bool). pick z true Rest) (pick_false here true _ m) ∙ ap (λ (k : ℕ). pick (has_like (record_at t i) (drop k t)) true Rest) (sym (add-one j))
+    pub pair_later : i < length rest → here ≡ false → Passed i → Passed (i + 1)
+    pair_later l m e =
+        next_pair l e ∙ ap (λ (z : Bool). pick z true (has_pair rest)) (pick_false here true _ m)
+        ∙ ap (λ (k : ℕ). pick (has_like a (drop k rest)) true (has_pair rest)) (sym (add-one i))
 
-    pub inner_none : length t ≤ j → Inner j → has_pair t ≡ Rest
+    pub pair_none : length rest ≤ i → Passed i → has_pair t ≡ has_pair rest
     unfolding pick
-    inner_none h e = e ∙ ap (λ (m : List Record). pick (has_like (record_at t i) m) true Rest) (drop_of_length-le t h)
+    pair_none l e = e ∙ ap (λ (m : List Record). pick (has_like a m) true (has_pair rest)) (drop_of_length-le rest l)

@@ -1,6 +1,7 @@
 -- The five calls: the outcome, the table and the buffer that each leaves, for all inputs.
 -- Assumes nothing.
-use Rattle.std.specs.Prelude.{Bool, true, List, ℕ, length, set, leb, ltb, eqb, Option}
+use Rattle.std.specs.Prelude.{◌≡◌, Bool, true, List, ℕ, length, set, leb, ltb, eqb, Option}
+use Rattle.std.proofs.Common.{MutBor}
 use Rattle.ground.specs.Choice.{pick}
 use Rattle.telegram.specs.Layout.{longest, on_bus}
 use Rattle.telegram.specs.Writers.{connect_allowed, disconnect_allowed, data_allowed}
@@ -120,3 +121,9 @@ unfoldable pub called : Link
 called c h t time d =
     leaves (first (order (asked c h t time d))) h t time d (place_of c t) (step_of c (record_at t (place_of c t)) h.own time d)
     (step_out c (record_at t (place_of c t)) h.own time d)
+
+-- A function that takes the step of the call c: whatever it gives of a record and a buffer is what that step makes of them.
+abbrev pub TakesStep : Call → ℕ → ℕ → (Record → MutBor (List ℕ) → Step → MutBor (List ℕ) → Type 0) → Type 0
+TakesStep c own time gives =
+    (r : Record) (before after : MutBor (List ℕ)) (s : Step) → gives r before s after
+    → (s ≡ step_of c r own time before.now) × (after.now ≡ step_out c r own time before.now)

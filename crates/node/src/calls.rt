@@ -1,16 +1,42 @@
 // The five calls. Each refuses what concerns the table, and else applies the step of one connection to one record, where it stands.
-ghost use Rattle.std.specs.Prelude.{◌≡◌};
-ghost use Rattle.node.specs.Calls.{called};
+ghost use Rattle.std.specs.Prelude.{◌≡◌, length, unwrap_or};
+ghost use Rattle.node.specs.Matching.{place_in};
+ghost use Rattle.node.specs.Calls.{Call, place_of, carried_by, TakesStep, called};
 ghost use Rattle.node.specs.Calls.Call.{Open, Close, Send, Received, Tick};
 
 use crate::matching::first_match;
 use crate::outcomes::{refused, settle};
-use crate::refusals::refusal;
+use crate::refusals::admitted;
 use crate::{Head, Outcome, Route};
-use link::Record;
+use link::{Record, Step};
+
+// What the five calls share: where nothing refuses the call, its step is taken of the record in its place, and the record that the step leaves is put back
+// there. It does what `called` says of any call c that has this place, or none as this, has this answer to whether the bus carries its telegram, and takes this
+// step.
+fn call<F: FnOnce(Record, &mut [u8]) -> Step>(
+    table: &mut [Record],
+    head: Head,
+    time: u64,
+    place: Option<usize>,
+    carried: bool,
+    out: &mut [u8],
+    step: F,
+) -> Outcome
+    requires { F.IsAlwaysCallable step }
+    ensures { (c : Call) → place_in table.old (unwrap_or place (length table.old)) ≡ place_in table.old (place_of c table.old) → carried ≡ carried_by c
+        → TakesStep c head.own time (F.post step)
+        → (result ≡ (called c head table.old time out.old).outcome) × ((table.new ≡ (called c head table.old time out.old).table) × (out.new ≡ (called c head table.old time out.old).out)) }
+{
+    let place = match admitted(table, head, time, out.len(), carried, place) {
+        Ok(place) => place,
+        Err(refusal) => return refused(refusal as u32, head),
+    };
+    let step = step(table[place], out);
+    table[place] = step.record;
+    settle(step, head, time)
+}
 
 // Opens the connection at a place: a request goes out under the random number.
-#[tactic(auto, using(crate::proofs::Called::placed_before))]
 pub fn open(
     table: &mut [Record],
     head: Head,
@@ -23,17 +49,12 @@ pub fn open(
 ) -> Outcome
     ensures { (result ≡ (called (Open place random idle net.now) head table.old time out.old).outcome) × ((table.new ≡ (called (Open place random idle net.now) head table.old time out.old).table) × (out.new ≡ (called (Open place random idle net.now) head table.old time out.old).out)) }
 {
-    let number = refusal(table, head, time, out.len(), true, place);
-    if number != 0 {
-        return refused(number, head);
-    }
-    let step = link::open(table[place], head.own, time, random, idle, net, out);
-    table[place] = step.record;
-    settle(step, head, time)
+    call(table, head, time, Some(place), true, out, |record, out| {
+        link::open(record, head.own, time, random, idle, net, out)
+    })
 }
 
 // Closes the connection at a place: a disconnect goes out.
-#[tactic(auto, using(crate::proofs::Called::placed_before))]
 pub fn close(
     table: &mut [Record],
     head: Head,
@@ -46,17 +67,12 @@ pub fn close(
 ) -> Outcome
     ensures { (result ≡ (called (Close place new_setup reason text.now) head table.old time out.old).outcome) × ((table.new ≡ (called (Close place new_setup reason text.now) head table.old time out.old).table) × (out.new ≡ (called (Close place new_setup reason text.now) head table.old time out.old).out)) }
 {
-    let number = refusal(table, head, time, out.len(), true, place);
-    if number != 0 {
-        return refused(number, head);
-    }
-    let step = link::close(table[place], head.own, new_setup, reason, text, out);
-    table[place] = step.record;
-    settle(step, head, time)
+    call(table, head, time, Some(place), true, out, |record, out| {
+        link::close(record, head.own, new_setup, reason, text, out)
+    })
 }
 
 // Sends data on the connection at a place.
-#[tactic(auto, using(crate::proofs::Called::placed_before))]
 pub fn send(
     table: &mut [Record],
     head: Head,
@@ -68,17 +84,12 @@ pub fn send(
 ) -> Outcome
     ensures { (result ≡ (called (Send place command net.now) head table.old time out.old).outcome) × ((table.new ≡ (called (Send place command net.now) head table.old time out.old).table) × (out.new ≡ (called (Send place command net.now) head table.old time out.old).out)) }
 {
-    let number = refusal(table, head, time, out.len(), true, place);
-    if number != 0 {
-        return refused(number, head);
-    }
-    let step = link::send(table[place], head.own, time, command, net, out);
-    table[place] = step.record;
-    settle(step, head, time)
+    call(table, head, time, Some(place), true, out, |record, out| {
+        link::send(record, head.own, time, command, net, out)
+    })
 }
 
 // Takes a telegram for the connection that its route names. Random number, idle time and net data are for a possible confirm.
-#[tactic(auto, using(crate::proofs::Called::placed_before))]
 pub fn received(
     table: &mut [Record],
     head: Head,
@@ -94,34 +105,16 @@ pub fn received(
 {
     let place = first_match(table, route);
     let carried = telegram::on_bus(telegram.len());
-    let number = refusal(table, head, time, out.len(), carried, place);
-    if number != 0 {
-        return refused(number, head);
-    }
-    let step = link::received(
-        table[place],
-        head.own,
-        time,
-        random,
-        idle,
-        telegram,
-        net,
-        out,
-    );
-    table[place] = step.record;
-    settle(step, head, time)
+    call(table, head, time, place, carried, out, |record, out| {
+        link::received(record, head.own, time, random, idle, telegram, net, out)
+    })
 }
 
 // Lets time pass for the connection at a place.
-#[tactic(auto, using(crate::proofs::Called::placed_before))]
 pub fn tick(table: &mut [Record], head: Head, time: u64, place: usize, out: &mut [u8]) -> Outcome
     ensures { (result ≡ (called (Tick place) head table.old time out.old).outcome) × ((table.new ≡ (called (Tick place) head table.old time out.old).table) × (out.new ≡ (called (Tick place) head table.old time out.old).out)) }
 {
-    let number = refusal(table, head, time, out.len(), true, place);
-    if number != 0 {
-        return refused(number, head);
-    }
-    let step = link::tick(table[place], head.own, time, out);
-    table[place] = step.record;
-    settle(step, head, time)
+    call(table, head, time, Some(place), true, out, |record, out| {
+        link::tick(record, head.own, time, out)
+    })
 }

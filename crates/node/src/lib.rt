@@ -18,14 +18,14 @@ pub use outcomes::{net_data, plain_outcome};
 
 // The node's own bus address and the latest time seen, given to each call and handed back by it.
 #[repr(C)]
-#[derive(Clone, Copy)]
+#[derive(Clone, Copy, Debug, PartialEq, Eq)]
 pub struct Head {
     pub own: u32,
     pub latest: u64,
 }
 
 // What a telegram was sent under, as the frame has it: the sender's address, our SAP, the sender's SAP.
-#[derive(Clone, Copy)]
+#[derive(Clone, Copy, Debug, PartialEq, Eq)]
 pub struct Route {
     pub sender: u32,
     pub destination_sap: u32,

@@ -1,26 +1,26 @@
 // Which record a telegram is for.
 ghost use Rattle.std.specs.Prelude.{◌≡◌};
-ghost use Rattle.node.specs.Matching.{route_by, first_match};
+ghost use Rattle.node.specs.Matching.{route_by, route_of, place_in, first_match};
 
 use crate::Route;
 use link::Record;
 
-// The place of the first record that a telegram sent under this route is for, or the length of the table where there is none.
-pub fn first_match(table: &[Record], route: Route) -> usize
-    ensures { result ≡ first_match route table.now }
+// What the telegrams for a record are sent under.
+pub(crate) fn route_of(record: &Record) -> Route
+    ensures { result ≡ route_of «record».now }
 {
-    let mut i = 0;
-    while i < table.len() {
-        let r = table[i];
-        if (r.partner == route.sender)
-            & (r.local_sap == route.destination_sap)
-            & (r.partner_sap == route.source_sap)
-        {
-            break;
-        }
-        i += 1;
+    Route {
+        sender: record.partner,
+        destination_sap: record.local_sap,
+        source_sap: record.partner_sap,
     }
-    i
+}
+
+// The place of the first record that a telegram sent under this route is for.
+pub fn first_match(table: &[Record], route: Route) -> Option<usize>
+    ensures { result ≡ place_in table.now (first_match route table.now) }
+{
+    table.iter().position(|record| route_of(record) == route)
 }
 
 // What a telegram was sent under, by its numbers.

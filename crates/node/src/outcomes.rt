@@ -28,18 +28,16 @@ pub(crate) fn refused(number: u32, head: Head) -> Outcome
 pub(crate) fn settle(step: Step, head: Head, time: u64) -> Outcome
     ensures { result ≡ settled step head time }
 {
-    let answer = step.answer;
-    let event = step.event;
-    if answer.number != 0 {
-        return refused(answer.number, head);
+    if step.answer.number != 0 {
+        return refused(step.answer.number, head);
     }
     Outcome {
         head: Head {
-            own: head.own,
             latest: time,
+            ..head
         },
-        answer,
-        event,
+        answer: step.answer,
+        event: step.event,
     }
 }
 
@@ -47,12 +45,7 @@ pub(crate) fn settle(step: Step, head: Head, time: u64) -> Outcome
 fn data_part(event: Event) -> Part
     ensures { result ≡ part_of event }
 {
-    let Event::Data {
-        command,
-        start,
-        count,
-    } = event
-    else {
+    let Event::Data { start, count, .. } = event else {
         return Part { start: 0, count: 0 };
     };
     Part { start, count }
@@ -77,9 +70,11 @@ pub fn net_data(telegram: &[u8], event: Event) -> &[u8]
 pub fn plain_outcome(outcome: Outcome) -> PlainOutcome
     ensures { result ≡ plain outcome }
 {
-    let head = outcome.head;
-    let answer = outcome.answer;
-    let event = outcome.event;
+    let Outcome {
+        head,
+        answer,
+        event,
+    } = outcome;
     let Event::Data {
         command,
         start,
@@ -103,5 +98,13 @@ pub fn plain_outcome(outcome: Outcome) -> PlainOutcome
             reason: 0,
             last: 0,
         },
+    }
+}
+
+impl From<Outcome> for PlainOutcome {
+    ghost from_gives = { λ outcome numbers. numbers ≡ plain outcome };
+
+    fn from(outcome: Outcome) -> Self {
+        plain_outcome(outcome)
     }
 }

@@ -11,7 +11,7 @@ ghost use Rattle.node.specs.Calls.Call.{Open, Close, Send, Received, Tick};
 ghost use Rattle.node.specs.Plain.{plain};
 
 use link::Record;
-use node::{Head, PlainOutcome, plain_outcome, route_by};
+use node::{Head, PlainOutcome, route_by};
 
 #[unsafe(no_mangle)]
 pub extern "C" fn uj_new_head(own: u32) -> Head
@@ -42,8 +42,7 @@ pub extern "C" fn uj_open(
     ensures { (result ≡ plain (called (Open place random (idle_time_by named idle_time) net.now) head table.old time out.old).outcome) × ((table.new ≡ (called (Open place random (idle_time_by named idle_time) net.now) head table.old time out.old).table) × (out.new ≡ (called (Open place random (idle_time_by named idle_time) net.now) head table.old time out.old).out)) }
 {
     let idle = link::idle_time_by(named, idle_time);
-    let outcome = node::open(table, head, time, place, random, idle, net, out);
-    plain_outcome(outcome)
+    node::open(table, head, time, place, random, idle, net, out).into()
 }
 
 #[unsafe(no_mangle)]
@@ -59,8 +58,7 @@ pub extern "C" fn uj_close(
 ) -> PlainOutcome
     ensures { (result ≡ plain (called (Close place new_setup reason text.now) head table.old time out.old).outcome) × ((table.new ≡ (called (Close place new_setup reason text.now) head table.old time out.old).table) × (out.new ≡ (called (Close place new_setup reason text.now) head table.old time out.old).out)) }
 {
-    let outcome = node::close(table, head, time, place, new_setup, reason, text, out);
-    plain_outcome(outcome)
+    node::close(table, head, time, place, new_setup, reason, text, out).into()
 }
 
 #[unsafe(no_mangle)]
@@ -75,8 +73,7 @@ pub extern "C" fn uj_send(
 ) -> PlainOutcome
     ensures { (result ≡ plain (called (Send place command net.now) head table.old time out.old).outcome) × ((table.new ≡ (called (Send place command net.now) head table.old time out.old).table) × (out.new ≡ (called (Send place command net.now) head table.old time out.old).out)) }
 {
-    let outcome = node::send(table, head, time, place, command, net, out);
-    plain_outcome(outcome)
+    node::send(table, head, time, place, command, net, out).into()
 }
 
 #[unsafe(no_mangle)]
@@ -98,8 +95,7 @@ pub extern "C" fn uj_received(
 {
     let route = route_by(sender, destination_sap, source_sap);
     let idle = link::idle_time_by(named, idle_time);
-    let outcome = node::received(table, head, time, route, random, idle, telegram, net, out);
-    plain_outcome(outcome)
+    node::received(table, head, time, route, random, idle, telegram, net, out).into()
 }
 
 #[unsafe(no_mangle)]
@@ -112,6 +108,5 @@ pub extern "C" fn uj_tick(
 ) -> PlainOutcome
     ensures { (result ≡ plain (called (Tick place) head table.old time out.old).outcome) × ((table.new ≡ (called (Tick place) head table.old time out.old).table) × (out.new ≡ (called (Tick place) head table.old time out.old).out)) }
 {
-    let outcome = node::tick(table, head, time, place, out);
-    plain_outcome(outcome)
+    node::tick(table, head, time, place, out).into()
 }

@@ -1,19 +1,12 @@
--- A search that has passed a record is the search of the rest; it stops at one that is not accepted.
-use Rattle.std.proofs.Common.{sym, ◌∙◌, arith}
-use Rattle.node.proofs.Searches.{good_all, good_not, good_later}
+-- `all` asks each record in turn, as the definition does.
+use Rattle.std.proofs.Common.{◌∙◌, rules, tests}
+use Rattle.std.proofs.lemmas.Iterator.{YieldsList-from_slice}
+use Rattle.std.proofs.lemmas.Iterator.Search.{all_from_yields_List}
+use Rattle.node.specs.Accepted.{record_accepted}
+use Rattle.node.proofs.Searches.{all_is}
 use Rattle.node.proofs.accepted.all_accepted.Goals as goal
-use Rattle.node.proofs.accepted.all_accepted.Goals.{else-loop-i-test, then-loop-i-test+then-not-good}
-
-pub loop-i-preserved : goal.loop-i-preserved
-loop-i-preserved c =
-    let good = sym c.record_accepted-good.ensures ∙ c.if-not-good.false in
-    (omega arith, good_later c.args.head c.args.table.now c.loop-i.i c.loop-i-test.true good c.loop-i.invariant.1)
 
 pub returns : goal.returns
 returns c =
-    let h = c.args.head in let t = c.args.table.now in let i = c.loop-i.i in
-    elim c.loop-i-test.branch [
-      | else-loop-i-test w ↦ good_all h t i w.loop-i-test.false c.loop-i.invariant.1
-      | then-loop-i-test+then-not-good w ↦
-          good_not h t i w.loop-i-test.true (sym w.record_accepted-good.ensures ∙ w.if-not-good.true) c.loop-i.invariant.1
-    ]
+    let h = c.args.head in let t = c.args.table.now in
+    all_from_yields_List (record_accepted h) _ _ _ c.all.ensures.ran (YieldsList-from_slice t cc) (λ x b q k. search (rules, tests)) ∙ all_is h t

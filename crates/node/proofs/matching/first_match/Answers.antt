@@ -1,18 +1,12 @@
--- A search that has passed a record is the search of the rest.
-use Rattle.std.proofs.Common.{◌≡◌, true, false, arith}
-use Rattle.node.specs.Accepted.{record_at}
-use Rattle.node.specs.Matching.{is_for}
-use Rattle.node.proofs.Searches.{found_here, found_later}
+-- `position` asks each record in turn, as the definition does.
+use Rattle.std.proofs.Common.{◌∙◌, ap, rules, tests}
+use Rattle.std.proofs.lemmas.Iterator.{YieldsList-from_slice}
+use Rattle.std.proofs.lemmas.Iterator.Search.{position_from_yields_List}
+use Rattle.node.specs.Matching.{is_for, place_in}
+use Rattle.node.proofs.Searches.{first_is}
 use Rattle.node.proofs.matching.first_match.Goals as goal
 
-pub loop-i-preserved : goal.loop-i-preserved
-loop-i-preserved c =
-    let w = c.args.route in let t = c.args.table.now in let i = c.loop-i.i in
-    let other : is_for w (record_at t i) ≡ false = c.if-r-route.false in
-    (omega arith, found_later w t i c.loop-i-test.true other c.loop-i.invariant.1)
-
-pub returns-then-r-route : goal.returns-then-r-route
-returns-then-r-route c =
-    let w = c.args.route in let t = c.args.table.now in let i = c.loop-i.i in
-    let this : is_for w (record_at t i) ≡ true = c.if-r-route.true in
-    found_here w t i c.loop-i-test.true this c.loop-i.invariant.1
+pub returns : goal.returns
+returns c =
+    let w = c.args.route in let t = c.args.table.now in
+    position_from_yields_List (is_for w) _ _ _ c.position.ensures.ran (YieldsList-from_slice t cc) (λ x b q k. search (rules, tests)) ∙ ap (place_in t) (first_is w t)

@@ -1,9 +1,0 @@
--- As `called` says: refused before the record is looked at, or the record's step, put in its place.
-use Rattle.node.proofs.Called.{call_refused, call_done}
-use Rattle.node.proofs.calls.received.Goals as goal
-
-pub returns-then-number-ne0 : goal.returns-then-number-ne0
-returns-then-number-ne0 c = call_refused _ _ _ _ _ _ _ _ (c.first_match-place.ensures, (c.on_bus-carried.ensures, c.refusal-number.ensures)) c.if-number-ne0.true _ c.refused.ensures
-
-pub returns : goal.returns
-returns c = call_done _ _ _ _ _ _ _ _ (c.first_match-place.ensures, (c.on_bus-carried.ensures, c.refusal-number.ensures)) c.if-number-ne0.false _ _ c.received-step.ensures _ c.settle.ensures
