@@ -3,7 +3,7 @@ ghost use Rattle.std.specs.Prelude.{◌≡◌, length};
 ghost use Rattle.clock.specs.Reading.{prefixed, read_by};
 
 use crate::{Message, Reading, RefTime};
-use ground::number_at4;
+use ground::bytes_at;
 
 // How many bytes a message has.
 const BYTES: usize = 11;
@@ -34,8 +34,8 @@ pub fn read_message(bytes: &[u8]) -> Reading
     if !has_prefix(bytes) {
         return Reading::OtherPrefix;
     }
-    let number = number_at4(bytes, 3);
-    let time = number_at4(bytes, 7);
+    let number = u32::from_le_bytes(bytes_at::<4>(bytes, 3));
+    let time = u32::from_le_bytes(bytes_at::<4>(bytes, 7));
     let message = Message {
         number,
         reference: RefTime(time),

@@ -18,9 +18,7 @@ ground : Ground
 ground =
     record {
       byte = λ t at. unique;
-      number_at1 = λ t at. unique;
-      number_at2 = λ t at. unique;
-      number_at4 = λ t at. unique;
+      bytes_at = λ N t at. unique;
     }
 
 rows48 : Rows48

@@ -5,7 +5,7 @@
 -- Assumes nothing.
 use Rattle.std.specs.Prelude.{◌≡◌, Bool, List, ◌++◌, ℕ, Option, get_or}
 use Rattle.std.specs.Int.Bits.{bit_xor}
-use Rattle.ground.specs.Numbers.{number_at}
+use Rattle.ground.specs.Numbers.{bytes_at}
 use Rattle.digits.specs.Digits.{picked}
 use Rattle.rows48.specs.Rows as rows48
 use Rattle.rows32.specs.Rows as rows32
@@ -75,11 +75,9 @@ Unique₃ {A} {B} {C} P = (r s : A) (t u : B) (a b : C) → P r t a → P s u b 
 
 -- The public functions of `ground`.
 pub record Ground : Type 0 where
-  -- src/numbers.rt: a byte, and numbers of several bytes
+  -- src/numbers.rt: a byte, and the bytes from a place on
   pub byte : (t : List ℕ) (at : ℕ) → Unique (λ (x : ℕ). x ≡ get_or t at 0)
-  pub number_at1 : (t : List ℕ) (at : ℕ) → Unique (λ (x : ℕ). x ≡ number_at 1 at t)
-  pub number_at2 : (t : List ℕ) (at : ℕ) → Unique (λ (x : ℕ). x ≡ number_at 2 at t)
-  pub number_at4 : (t : List ℕ) (at : ℕ) → Unique (λ (x : ℕ). x ≡ number_at 4 at t)
+  pub bytes_at : (N : ℕ) (t : List ℕ) (at : ℕ) → Unique (λ (x : List ℕ). x ≡ bytes_at N at t)
 
 -- The public functions of `rows48` and `rows32`, which only `checkword` calls.
 pub record Rows48 : Type 0 where

@@ -4,4 +4,4 @@
 
 mod numbers;
 
-pub use numbers::{byte, bytes_at, number_at1, number_at2, number_at4};
+pub use numbers::{byte, bytes_at};

@@ -1,6 +1,6 @@
 // Bytes and numbers by their place in a run. A byte past the end reads 0, so that no caller has to know a length first.
 ghost use Rattle.std.specs.Prelude.{◌≡◌, get_or};
-ghost use Rattle.ground.specs.Numbers.{bytes_at, number_at};
+ghost use Rattle.ground.specs.Numbers.{bytes_at};
 
 // The byte at a place, or 0.
 pub fn byte(t: &[u8], at: usize) -> u8
@@ -14,25 +14,4 @@ pub fn bytes_at<const N: usize>(t: &[u8], at: usize) -> [u8; N]
     ensures { result ≡ bytes_at N at t.now }
 {
     std::array::from_fn(|i| byte(t, at.saturating_add(i)))
-}
-
-// The number of one byte.
-pub fn number_at1(t: &[u8], at: usize) -> u32
-    ensures { result ≡ number_at 1 at t.now }
-{
-    byte(t, at) as u32
-}
-
-// The number of two bytes.
-pub fn number_at2(t: &[u8], at: usize) -> u32
-    ensures { result ≡ number_at 2 at t.now }
-{
-    u16::from_le_bytes(bytes_at(t, at)) as u32
-}
-
-// The number of four bytes.
-pub fn number_at4(t: &[u8], at: usize) -> u32
-    ensures { result ≡ number_at 4 at t.now }
-{
-    u32::from_le_bytes(bytes_at(t, at))
 }
