@@ -6,12 +6,8 @@ use Prim.Native.Nat.{ℕ, zero, suc, ◌+◌, ◌≤◌, ◌<◌}
 use native.Mathlib.Nat.{add-zero, add-suc, suc-add, not-suc-le-zero, le_of_suc-le-suc, le_of_lt}
 use native.Mathlib.Numerals.{add-one}
 use lib.ListN.{length, take, drop, get_or, set}
-use lib.Seq.{sets, sets-eq, length-sets, length-take-le, take-suc}
+use lib.Seq.{sets, sets-eq, length-take-le, take-suc}
 use Rattle.telegram.specs.Over.{over}
-
-pub length_over : (l : List ℕ) (i : ℕ) (vs : List ℕ) → length (over l i vs) ≡ length l
-unfolding over
-length_over l i vs = length-sets l i vs
 
 -- one write after the other, where the second starts at the first's end
 sets_join : (l : List ℕ) (i : ℕ) (vs ws : List ℕ) → sets (sets l i vs) (i + length vs) ws ≡ sets l i (vs ++ ws)

@@ -9,26 +9,29 @@ use Rattle.telegram.specs.Layout.{on_bus, suits, values}
 use Rattle.telegram.specs.Ends.{in_range, receiving}
 use Rattle.telegram.specs.Values.{good_fields}
 use Rattle.telegram.specs.Telegrams.{check_word}
+use Rattle.telegram.specs.Refusals.{refusal_number}
 use Rattle.telegram.specs.declared.End.{End}
 use Rattle.telegram.specs.declared.Kind.{Kind}
 use Rattle.telegram.specs.declared.Kind.TheVariants.{Request, Confirm, Authentication, Acknowledgement, Disconnect, Idle, Data, Unknown}
 use Rattle.telegram.specs.declared.Clause.{Clause}
 use Rattle.telegram.specs.declared.Clause.TheVariants as clause
 use Rattle.telegram.specs.declared.Refusal.{Refusal}
-use Rattle.telegram.specs.declared.Refusal.TheVariants.{OutOfRange, NoRecord, WrongPhase, NoRoom, BadValue, BadTelegram, TimeBackwards, Ended}
+use Rattle.telegram.specs.declared.Refusal.TheVariants.{OutOfRange, BadTelegram}
 use Rattle.telegram.specs.declared.Unfit.{Unfit}
 use Rattle.telegram.specs.declared.Unfit.TheVariants as unfit
 
--- What the check found: the telegram passes, a clause fails, or it is refused.
+-- What the check found: the telegram passes, or why it does not.
 abbrev pub Check : Type 0
 Check = Result (Unit {0}) Unfit
 
 abbrev pub Passes : Check
 Passes = Ok tt
 
+-- The first clause that fails.
 abbrev pub Failed : Clause → Check
 Failed c = Err (unfit.Failed c)
 
+-- What is not looked at: an end out of range, or bytes that the bus can't carry as a telegram of ours.
 abbrev pub Refused : Refusal → Check
 Refused r = Err (unfit.Refused r)
 
@@ -84,17 +87,6 @@ first_failing (c ∷ cs) = pick c.0 (first_failing cs) (Failed c.1)
 -- The check: refused with 1 or 6, or the first clause that fails, or passed.
 unfoldable pub check_of : End → ℕ → List ℕ → Check
 check_of e expected t = pick (in_range e) (pick (on_bus (length t)) (first_failing (clauses e expected t)) (Refused BadTelegram)) (Refused OutOfRange)
-
--- The number of a refusal.
-abbrev pub refusal_number : Refusal → ℕ
-refusal_number OutOfRange = 1
-refusal_number NoRecord = 2
-refusal_number WrongPhase = 3
-refusal_number NoRoom = 4
-refusal_number BadValue = 5
-refusal_number BadTelegram = 6
-refusal_number TimeBackwards = 7
-refusal_number Ended = 8
 
 -- The number that says what the check found: 0 passes, 1 and 6 refused, 100 failed.
 abbrev pub answer_number : Check → ℕ

@@ -6,6 +6,7 @@ pub mod Over
 pub mod Telegrams
 pub mod Values
 pub mod Writers
+pub mod Refusals
 pub mod Check
 pub mod NetData
 pub mod Facts

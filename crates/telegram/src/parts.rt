@@ -2,12 +2,12 @@
 ghost use Rattle.std.specs.Prelude.{◌≡◌};
 ghost use Rattle.telegram.specs.NetData.{net_part, net_data};
 
+use crate::Part;
 use crate::commands::is_known;
 use crate::ends::is_level;
 use crate::fields::kind_of_telegram;
 use crate::layout::{header_length, length_suits};
 use crate::levels::{level_of, word_length};
-use crate::Part;
 use ground::byte;
 
 // What is no telegram has no net data.
@@ -33,6 +33,7 @@ pub fn net_part(telegram: &[u8]) -> Part
 }
 
 // The net data: the part of the lent telegram after its fixed header and before its check word.
+#[tactic(auto, using(crate::proofs::Inside::inside_by, crate::proofs::Inside::data_by))]
 pub fn net_data(telegram: &[u8]) -> &[u8]
     ensures { result.now ≡ net_data telegram.now }
 {

@@ -1,0 +1,15 @@
+-- The refusals by their numbers, as the caller of a call is answered; 0 is no refusal.
+-- Assumes nothing.
+use Rattle.std.specs.Prelude.{ℕ}
+use Rattle.telegram.specs.declared.Refusal.{Refusal}
+use Rattle.telegram.specs.declared.Refusal.TheVariants.{OutOfRange, NoRecord, WrongPhase, NoRoom, BadValue, BadTelegram, TimeBackwards, Ended}
+
+abbrev pub refusal_number : Refusal → ℕ
+refusal_number OutOfRange = 1
+refusal_number NoRecord = 2
+refusal_number WrongPhase = 3
+refusal_number NoRoom = 4
+refusal_number BadValue = 5
+refusal_number BadTelegram = 6
+refusal_number TimeBackwards = 7
+refusal_number Ended = 8
