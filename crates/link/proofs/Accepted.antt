@@ -16,7 +16,7 @@ use Rattle.telegram.specs.declared.Kind.{Kind}
 use Rattle.telegram.specs.declared.Kind.TheVariants as kind
 use Rattle.telegram.proofs.Refusals.{both_true, both_are}
 use Rattle.telegram.proofs.Apart.{passed}
-use Rattle.link.proofs.Cases.{live_phase, phases}
+use Rattle.link.proofs.Cases.{either, live_phase, phases}
 use Rattle.link.specs.Records.{end_of, is_phase, is_closed, at_rest, record_in_range, become, closed_by}
 use Rattle.link.specs.Table.{Incorrect-rcv-1st}
 use Rattle.link.specs.Judged.{passed as passed-kind, row_of, ruled, good_number, narrowed, checked_by, expected_now, run_out, run_out_verdict, judged, ticked}
@@ -77,12 +77,6 @@ sent_accepted : (r : Record) (own time : ℕ) → record_in_range r own ≡ true
 unfolding sent
 sent_accepted r own time h = become_accepted r own 5 _ _ _ _ _ _ h (omega arith) (omega arith) (parts r own h).declared (parts r own h).watched
 
-picked_accepted : (b : Bool) (own : ℕ) (s u : Step) → record_in_range s.«record» own ≡ true → record_in_range u.«record» own ≡ true
-    → record_in_range (pick b s u).«record» own ≡ true
-unfolding pick
-picked_accepted true own s u p q = p
-picked_accepted false own s u p q = q
-
 refused_accepted : (n : ℕ) (r : Record) (own : ℕ) → record_in_range r own ≡ true → record_in_range (refused_step n r).«record» own ≡ true
 unfolding refused_step
 refused_accepted n r own h = h
@@ -94,7 +88,7 @@ quiet_accepted q e own h = h
 pub writing_accepted : (w : Written) (r q : Record) (own kind : ℕ) (e : Event) → record_in_range r own ≡ true → record_in_range q own ≡ true
     → record_in_range (writing_step w r q kind e).«record» own ≡ true
 unfolding writing_step
-writing_accepted w r q own kind e h g = picked_accepted (eqb w.answer 0) own _ _ g (refused_accepted w.answer r own h)
+writing_accepted w r q own kind e h g = either (λ (s : Step). record_in_range s.«record» own ≡ true) (eqb w.answer 0) _ _ g (refused_accepted w.answer r own h)
 
 -- which verdicts store the telegram's idle time
 abbrev stores : Verdict → Bool

@@ -111,11 +111,11 @@ last_column kind.Idle = refl
 last_column kind.Data = refl
 last_column kind.Unknown = refl
 
--- what holds of both verdicts holds of the one that a test picks
-pub either : (P : Verdict → Type 0) (b : Bool) (v w : Verdict) → P v → P w → P (pick b v w)
+-- what holds of both sides holds of the one that a test picks
+pub either : {A : Type 0} (P : A → Type 0) (b : Bool) (x y : A) → P x → P y → P (pick b x y)
 unfolding pick
-either P true v w p q = p
-either P false v w p q = q
+either P true x y p q = p
+either P false x y p q = q
 
 -- a tick asks for nothing that needs a telegram
 pub tick_asks : (r : Record) (time : ℕ) → on_tick (ticked r time) ≡ ticked r time

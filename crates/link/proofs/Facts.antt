@@ -11,7 +11,7 @@ use Rattle.telegram.specs.Writers.{Outcome, answer_of, left_by, refusal, unless,
 use Rattle.telegram.proofs.Taken.{disconnect_taken}
 use Rattle.telegram.specs.declared.End.{End}
 use Rattle.telegram.specs.declared.Written.{Written}
-use Rattle.link.proofs.Cases.{columns}
+use Rattle.link.proofs.Cases.{columns, either}
 use Rattle.link.specs.Records.{end_of, at_rest, become, closed_by}
 use Rattle.link.specs.Times.{gap, wait_over, watch_over}
 use Rattle.link.specs.Table.{cell, reading, otherwise, Connect-snd, Data-snd, Timeout-snd, Timeout-rcv, Timeout-brk, Data-rcv, Idle-rcv, Incorrect-rcv-1st, Incorrect-rcv-2nd, ConReq-rcv, ConAck-rcv, AuthReq-rcv, AuthAck-rcv, Discon-snd, FDiscon-snd, Discon-rcv}
@@ -47,11 +47,6 @@ sent_same : (r : Record) (time : ℕ) → Same r (sent r time)
 unfolding sent
 sent_same r time = become_same r 5 _ r.expected r.declared r.watched time r.taken_at
 
-picked_same : (b : Bool) (r : Record) (s u : Step) → Same r s.«record» → Same r u.«record» → Same r (pick b s u).«record»
-unfolding pick
-picked_same true r s u p q = p
-picked_same false r s u p q = q
-
 quiet_same : (r q : Record) (e : Event) → Same r q → Same r (quietly q e).«record»
 unfolding quietly
 quiet_same r q e p = p
@@ -62,7 +57,7 @@ refused_same n r = same_refl r
 
 writing_same : (w : Written) (r q : Record) (kind : ℕ) (e : Event) → Same r q → Same r (writing_step w r q kind e).«record»
 unfolding writing_step
-writing_same w r q kind e p = picked_same (eqb w.answer 0) r _ _ p (refused_same w.answer r)
+writing_same w r q kind e p = either (λ (s : Step). Same r s.«record») (eqb w.answer 0) _ _ p (refused_same w.answer r)
 
 act_same : (v : Verdict) (r : Record) (own time random declared : ℕ) (t net d : List ℕ) → Same r (act_of v r own time random declared t net d).«record»
 act_same Nothing r own time random declared t net d = quiet_same r r _ (same_refl r)
@@ -77,7 +72,7 @@ act_same Disconnected r own time random declared t net d = quiet_same r _ _ (clo
 act_same (Close reason last) r own time random declared t net d = writing_same _ r _ 5 _ (closed_same last r)
 
 unless_same : (n : ℕ) (r : Record) (s : Step) → Same r s.«record» → Same r (unless_step n r s).«record»
-unless_same n r s p = picked_same (eqb n 0) r s (refused_step n r) p (refused_same n r)
+unless_same n r s p = either (λ (s : Step). Same r s.«record») (eqb n 0) s (refused_step n r) p (refused_same n r)
 
 pub same_connection : SameConnection
 unfolding open_of close_of send_of received_of tick_of

@@ -1,8 +1,9 @@
 -- No step sets a timer later than its own time: a record that it leaves has each timer at that time, at 0, or as it was.
 -- Assumes nothing.
-use Rattle.std.proofs.Common.{ℕ, ◌≤◌, Bool, true, false, eqb, List, [], arith}
+use Rattle.std.proofs.Common.{ℕ, ◌≤◌, Bool, eqb, List, [], arith}
 use Rattle.ground.specs.Choice.{pick}
 use Rattle.telegram.specs.declared.Written.{Written}
+use Rattle.link.proofs.Cases.{either}
 use Rattle.link.specs.Records.{become, closed_by}
 use Rattle.link.specs.Judged.{judged, ticked}
 use Rattle.link.specs.Steps.{taken, sent, quietly, refused_step, writing_step, act_of, unless_step, open_refusal, open_of, close_refusal, close_of, send_refusal, send_of, received_refusal, received_of, tick_refusal, tick_of}
@@ -30,11 +31,6 @@ sent_timed : (time : ℕ) (r : Record) → Timers time r → Timers time (sent r
 unfolding sent
 sent_timed time r h = become_timed time r 5 _ r.expected r.declared r.watched time r.taken_at (omega arith) h.taken_at
 
-picked_timed : (time : ℕ) (b : Bool) (s u : Step) → Timers time s.«record» → Timers time u.«record» → Timers time (pick b s u).«record»
-unfolding pick
-picked_timed time true s u p q = p
-picked_timed time false s u p q = q
-
 quiet_timed : (time : ℕ) (q : Record) (e : Event) → Timers time q → Timers time (quietly q e).«record»
 unfolding quietly
 quiet_timed time q e h = h
@@ -45,7 +41,7 @@ refused_timed time n r h = h
 
 writing_timed : (time : ℕ) (w : Written) (r q : Record) (kind : ℕ) (e : Event) → Timers time r → Timers time q → Timers time (writing_step w r q kind e).«record»
 unfolding writing_step
-writing_timed time w r q kind e h g = picked_timed time (eqb w.answer 0) _ _ g (refused_timed time w.answer r h)
+writing_timed time w r q kind e h g = either (λ (s : Step). Timers time s.«record») (eqb w.answer 0) _ _ g (refused_timed time w.answer r h)
 
 -- set to the step's time
 now_timed : (time : ℕ) (r : Record) (phase sending expected declared watched : ℕ) → Timers time (become r phase sending expected declared watched time time)
@@ -64,7 +60,7 @@ act_timed Disconnected r own time random declared t net d h = quiet_timed time _
 act_timed (Close reason last) r own time random declared t net d h = writing_timed time _ r _ 5 _ h (closed_timed time last r)
 
 unless_timed : (time n : ℕ) (r : Record) (s : Step) → Timers time r → Timers time s.«record» → Timers time (unless_step n r s).«record»
-unless_timed time n r s h g = picked_timed time (eqb n 0) s (refused_step n r) g (refused_timed time n r h)
+unless_timed time n r s h g = either (λ (s : Step). Timers time s.«record») (eqb n 0) s (refused_step n r) g (refused_timed time n r h)
 
 pub timers_kept : TimersKept
 unfolding open_of close_of send_of received_of tick_of

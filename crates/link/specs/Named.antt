@@ -31,7 +31,7 @@ telegram_number telegram.Disconnect = 5
 telegram_number telegram.Idle = 6
 telegram_number telegram.Data = 7
 
--- The refusals (`first_refusal` in Steps.antt), and 0 where there is none.
+-- The refusals (`first_refusal` in Steps.antt).
 abbrev pub refusal_number : Refusal → ℕ
 refusal_number refusal.OutOfRange = 1
 refusal_number refusal.NoRecord = 2
@@ -42,6 +42,7 @@ refusal_number refusal.BadTelegram = 6
 refusal_number refusal.TimeBackwards = 7
 refusal_number refusal.Ended = 8
 
+-- 0 where there is none.
 abbrev pub number_of : Result Unit Refusal → ℕ
 number_of (Ok done) = 0
 number_of (Err r) = refusal_number r

@@ -1,4 +1,5 @@
-// What a verdict does: at most one telegram is written, and the record and the event come back.
+// What a verdict does: at most one telegram is written, and the record and the event come back. Record and own address stay two arguments: in a struct of both
+// the record would be copied once more (docs/DECISIONS.md, "Stack on the small card").
 ghost use Rattle.std.specs.Prelude.{◌≡◌, [], ◌==◌};
 ghost use Rattle.ground.specs.Choice.{pick};
 ghost use Rattle.telegram.specs.Fields.{type_of, reason_of, low_of};
@@ -61,7 +62,7 @@ pub(crate) fn refused_step(number: u32, record: Record) -> Step
     }
 }
 
-// A step that writes, by what the writer answered.
+// A step that writes, by what the writer answered: in numbers, since writers are called from C, 0 where it wrote.
 #[tactic(auto, using(ground::specs::Choice::tests), unfolding(crate::specs::Steps::writing_step))]
 pub(crate) fn written_step(
     written: Written,

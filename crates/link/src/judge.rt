@@ -12,7 +12,7 @@ use crate::times::{idle_due, wait_over, watch_over};
 use crate::{Record, Verdict};
 use telegram::{Check, Kind};
 
-// The closings of 5.2.5.7 and 5.2.5.8 by their reasons (5.2.5.9), and whether each is final.
+// The closings of 5.2.5.7 and 5.2.5.8 by their reasons (5.2.5.9), which go out as numbers, and whether each is final.
 const BAD_VERSION: Verdict = Verdict::Close {
     reason: 0x01,
     last: true,
