@@ -16,11 +16,11 @@ use Rattle.telegram.specs.declared.Kind.{Kind}
 use Rattle.telegram.specs.declared.Kind.TheVariants as kind
 use Rattle.telegram.proofs.Refusals.{both_true, both_are}
 use Rattle.telegram.proofs.Apart.{passed}
-use Rattle.link.proofs.Cases.{either, live_phase, phases}
+use Rattle.link.proofs.Cases.{clear, either, live_phase, phases}
 use Rattle.link.specs.Records.{end_of, is_phase, is_closed, at_rest, record_in_range, become, closed_by}
 use Rattle.link.specs.Table.{Incorrect-rcv-1st}
 use Rattle.link.specs.Judged.{passed as passed-kind, row_of, ruled, good_number, narrowed, checked_by, expected_now, run_out, run_out_verdict, judged, ticked}
-use Rattle.link.specs.Steps.{first_refusal, declared_by, open_refusal, open_of, close_refusal, close_of, send_refusal, send_of, received_refusal, received_of, tick_refusal, tick_of, taken, sent, quietly, refused_step, writing_step, act_of, unless_step}
+use Rattle.link.specs.Steps.{declared_by, open_refusal, open_of, close_refusal, close_of, send_refusal, send_of, received_refusal, received_of, tick_refusal, tick_of, taken, sent, quietly, refused_step, writing_step, act_of, unless_step}
 use Rattle.link.specs.Facts.{StaysAccepted}
 use Rattle.link.specs.declared.Record.{Record}
 use Rattle.link.specs.declared.Step.{Step}
@@ -124,9 +124,7 @@ not_both b p q = let z : ◌≡◌ {A = ℕ} 0 1 = cc in absurd (omega arith)
 
 -- neither side of these choices stores an idle time
 number_stores : (b : Bool) (v : Verdict) → stores v ≡ false → stores (pick b v (Close 0x03 true)) ≡ false
-unfolding pick
-number_stores true v p = p
-number_stores false v p = refl
+number_stores b v p = either (λ (w : Verdict). stores w ≡ false) b v (Close 0x03 true) p refl
 
 -- only a request or confirm that passes the check has its idle time stored
 by_kind : (k : Kind) (p : ℕ) (r : Record) (t : List ℕ) → 1 ≤ p → p ≤ 5 → good_fields k (values k t) ≡ true
@@ -163,17 +161,6 @@ stored r own time t l h = split (run_out r time)
     split true s = not_both _ (run_out_stores r.phase l h) s
     split false s = by_check (check_of (end_of r own) (expected_now r) t) r own t refl l h s
 
--- no refusal: the values are allowed
-pub cleared : (a b c d e f : Bool) → first_refusal a b c d e f ≡ 0 → f ≡ true
-unfolding first_refusal pick
-cleared true true true true true true p = refl
-cleared true true true true true false p = absurd (omega arith)
-cleared true true true true false f p = absurd (omega arith)
-cleared true true true false e f p = absurd (omega arith)
-cleared true true false d e f p = absurd (omega arith)
-cleared true false c d e f p = absurd (omega arith)
-cleared false b c d e f p = absurd (omega arith)
-
 declared_good : (time count l : ℕ) → connect_allowed time count l ≡ true → good_idle time ≡ true
 unfolding connect_allowed
 declared_good time count l h = (both_true (good_idle time) _ h).0
@@ -194,7 +181,7 @@ stays_accepted =
       by_open = λ r own time random i net d h.
           unless_accepted (open_refusal r own i net d) own r _ h
           (λ z. writing_accepted _ r _ own 1 _ h
-          (become_accepted r own 2 _ _ _ _ _ _ h (omega arith) (omega arith) (declared_good (declared_by i) (length net) r.level (cleared _ _ _ _ _ _ z)) refl));
+          (become_accepted r own 2 _ _ _ _ _ _ h (omega arith) (omega arith) (declared_good (declared_by i) (length net) r.level (clear _ _ _ _ _ _ z).allowed) refl));
       by_close = λ r own type reason text d h.
           unless_accepted (close_refusal r own type reason text d) own r _ h (λ z. writing_accepted _ r _ own 5 _ h (closed_accepted _ r own h));
       by_send = λ r own time low net d h.
@@ -203,7 +190,7 @@ stays_accepted =
           unless_accepted (received_refusal r own i t net d) own r _ h
           (λ z.
           let live = live_phase r own (received_refusal r own i t net d) _ _ _ _ refl z in
-          act_accepted (judged r own time t) r own time random (declared_by i) t net d h (declared_good (declared_by i) (length net) r.level (cleared _ _ _ _ _ _ z))
+          act_accepted (judged r own time t) r own time random (declared_by i) t net d h (declared_good (declared_by i) (length net) r.level (clear _ _ _ _ _ _ z).allowed)
           (stored r own time t live.0 live.1));
       by_tick = λ r own time d h.
           unless_accepted (tick_refusal r own d) own r _ h (λ z. act_accepted (ticked r time) r own time 0 0 [] [] d h refl (λ s. refl));

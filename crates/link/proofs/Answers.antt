@@ -15,35 +15,19 @@ use Rattle.telegram.specs.declared.End.{End}
 use Rattle.telegram.specs.declared.Kind.{Kind}
 use Rattle.telegram.specs.declared.Kind.TheVariants as kind
 use Rattle.telegram.proofs.Refusals.{both_are}
-use Rattle.link.proofs.Cases.{live_phase, phases, either}
+use Rattle.link.proofs.Cases.{clear, live_phase, phases, either}
 use Rattle.link.proofs.Accepted.{parts}
 use Rattle.link.specs.Records.{end_of, record_in_range}
 use Rattle.link.specs.Table.{Timeout-snd, Incorrect-rcv-1st}
 use Rattle.link.specs.Judged.{passed, row_of, ruled, good_version, good_number, narrowed, checked_by, expected_now, run_out, run_out_verdict, judged, ticked}
 use Rattle.link.specs.Times.{idle_due}
-use Rattle.link.specs.Steps.{first_refusal, declared_by, open_refusal, open_of, close_refusal, close_of, send_refusal, send_of, received_refusal, received_of, tick_refusal, tick_of, quietly, refused_step, writing_step, act_of, unless_step}
+use Rattle.link.specs.Steps.{declared_by, open_refusal, open_of, close_refusal, close_of, send_refusal, send_of, received_refusal, received_of, tick_refusal, tick_of, quietly, refused_step, writing_step, act_of, unless_step}
 use Rattle.link.specs.Facts.{Answers}
 use Rattle.link.specs.declared.Record.{Record}
 use Rattle.link.specs.declared.Step.{Step}
 use Rattle.link.specs.declared.Event.{Event}
 use Rattle.link.specs.declared.Verdict.{Verdict}
 use Rattle.link.specs.declared.Verdict.TheVariants.{Nothing, Confirm, Authenticate, Acknowledge, Open, Data, Idle, SendIdle, Disconnected, Close}
-
--- no refusal: record, room and values
-record Clear (a b f : Bool) : Type 0 where
-  ranged : a ≡ true
-  room : b ≡ true
-  allowed : f ≡ true
-
-clear : (a b c d e f : Bool) → first_refusal a b c d e f ≡ 0 → Clear a b f
-unfolding first_refusal pick
-clear true true true true true true p = record { ranged = refl; room = refl; allowed = refl }
-clear true true true true true false p = absurd (omega arith)
-clear true true true true false f p = absurd (omega arith)
-clear true true true false e f p = absurd (omega arith)
-clear true true false d e f p = absurd (omega arith)
-clear true false c d e f p = absurd (omega arith)
-clear false b c d e f p = absurd (omega arith)
 
 -- a writer that has all it asks for writes
 writes : (e : End) (room : ℕ) (allowed : Bool) (t : List ℕ) → in_range e ≡ true → leb longest room ≡ true → allowed ≡ true → (answer_of (unless (refusal e room allowed) t)).answer ≡ 0

@@ -128,14 +128,24 @@ tick_asks r time =
     (either own (idle_due r time) _ Nothing
     (falls (λ _ p. own (ruled Timeout-snd p)) r.phase refl refl refl refl refl refl refl (λ q h. rw (ne_eqb q 4 (λ e. omega arith), no_cell))) refl) refl)
 
--- what no refusal says of the first and the fourth test
-chain : (a b c d e f : Bool) → ◌≡◌ {A = ℕ} (pick a (pick b (pick c (pick d (pick e (pick f 0 5) 3) 8) 6) 4) 1) 0 → (a ≡ true) × (d ≡ true)
-unfolding pick
-chain true true true true e f p = (refl, refl)
-chain true true true false e f p = absurd (omega arith)
-chain true true false d e f p = absurd (omega arith)
-chain true false c d e f p = absurd (omega arith)
-chain false b c d e f p = absurd (omega arith)
+-- with no refusal every test holds
+pub record Clear (a b c d e f : Bool) : Type 0 where
+  pub ranged : a ≡ true
+  pub room : b ≡ true
+  pub carried : c ≡ true
+  pub live : d ≡ true
+  pub suited : e ≡ true
+  pub allowed : f ≡ true
+
+pub clear : (a b c d e f : Bool) → first_refusal a b c d e f ≡ 0 → Clear a b c d e f
+unfolding first_refusal pick
+clear true true true true true true p = record { ranged = refl; room = refl; carried = refl; live = refl; suited = refl; allowed = refl }
+clear true true true true true false p = absurd (omega arith)
+clear true true true true false f p = absurd (omega arith)
+clear true true true false e f p = absurd (omega arith)
+clear true true false d e f p = absurd (omega arith)
+clear true false c d e f p = absurd (omega arith)
+clear false b c d e f p = absurd (omega arith)
 
 different : (x y : ℕ) → neb x y ≡ true → x ≡ y → ⊥
 unfolding pick
@@ -144,13 +154,13 @@ different x y h e = let z : ◌≡◌ {A = Bool} false true = sym (ap (λ (b : B
 -- no refusal: the record is in one of the phases from 1 to 5
 pub live_phase : (r : Record) (own n : ℕ) (room carried suited allowed : Bool)
     → n ≡ first_refusal (record_in_range r own) room carried (neb r.phase 6) suited allowed → n ≡ 0 → (1 ≤ r.phase) × (r.phase ≤ 5)
-unfolding first_refusal record_in_range is_phase
+unfolding record_in_range is_phase
 live_phase r own n room carried suited allowed p z =
-    let live = chain (record_in_range r own) room carried (neb r.phase 6) suited allowed (sym p ∙ z) in
-    let ranged = both_true (in_range (end_of r own)) (all (is_phase r.phase ∷ good_idle r.declared ∷ good_idle r.watched ∷ pick (is_closed r.phase) (at_rest r) true ∷ [])) live.0 in
+    let k = clear (record_in_range r own) room carried (neb r.phase 6) suited allowed (sym p ∙ z) in
+    let ranged = both_true (in_range (end_of r own)) (all (is_phase r.phase ∷ good_idle r.declared ∷ good_idle r.watched ∷ pick (is_closed r.phase) (at_rest r) true ∷ [])) k.ranged in
     let phase = both_true (is_phase r.phase) (all (good_idle r.declared ∷ good_idle r.watched ∷ pick (is_closed r.phase) (at_rest r) true ∷ [])) ranged.1 in
     let bounds = both_true (leb 1 r.phase) (leb r.phase 6) phase.0 in
-    (leb-true 1 r.phase bounds.0, below r.phase (leb-true r.phase 6 bounds.1) (different r.phase 6 live.1))
+    (leb-true 1 r.phase bounds.0, below r.phase (leb-true r.phase 6 bounds.1) (different r.phase 6 k.live))
   where
     below : (p : ℕ) → p ≤ 6 → (p ≡ 6 → ⊥) → p ≤ 5
     below p h d = omega arith

@@ -11,7 +11,7 @@ use Rattle.telegram.specs.Writers.{Outcome, answer_of, left_by, refusal, unless,
 use Rattle.telegram.proofs.Taken.{disconnect_taken}
 use Rattle.telegram.specs.declared.End.{End}
 use Rattle.telegram.specs.declared.Written.{Written}
-use Rattle.link.proofs.Cases.{columns, either}
+use Rattle.link.proofs.Cases.{clear, columns, either}
 use Rattle.link.specs.Records.{end_of, at_rest, become, closed_by}
 use Rattle.link.specs.Times.{gap, wait_over, watch_over}
 use Rattle.link.specs.Table.{cell, reading, otherwise, Connect-snd, Data-snd, Timeout-snd, Timeout-rcv, Timeout-brk, Data-rcv, Idle-rcv, Incorrect-rcv-1st, Incorrect-rcv-2nd, ConReq-rcv, ConAck-rcv, AuthReq-rcv, AuthAck-rcv, Discon-snd, FDiscon-snd, Discon-rcv}
@@ -89,11 +89,7 @@ same_connection =
 
 -- with the fourth test failed there is a refusal
 stopped : (a b c e f : Bool) → first_refusal a b c false e f ≡ 0 → ⊥
-unfolding first_refusal pick
-stopped true true true e f p = omega arith
-stopped true true false e f p = omega arith
-stopped true false c e f p = omega arith
-stopped false b c e f p = omega arith
+stopped a b c e f p = let k = (clear a b c false e f p).live in let z : ◌≡◌ {A = ℕ} 0 1 = cc in omega arith
 
 finally : (r : Record) → r.phase ≡ 6 → neb r.phase 6 ≡ false
 unfolding pick
