@@ -1,5 +1,6 @@
-// What a verdict does: at most one telegram is written, and the record and the event come back. Record and own address stay two arguments: in a struct of both
-// the record would be copied once more (docs/DECISIONS.md, "Stack on the small card").
+// What a verdict does: at most one telegram is written, and the record and the event come back. Record and own address
+// stay two arguments: in a struct of both the record would be copied once more (docs/DECISIONS.md, "Stack on the small
+// card").
 ghost use Rattle.std.specs.Prelude.{◌≡◌, [], ◌==◌};
 ghost use Rattle.ground.specs.Choice.{pick};
 ghost use Rattle.telegram.specs.Fields.{type_of, reason_of, low_of};
@@ -189,7 +190,7 @@ fn idle_step(record: Record, own: u32, time: u64, out: &mut [u8]) -> Step
     written_step(written, record, r, Telegram::Idle, Event::Nothing)
 }
 
-// A closing that a telegram asks for: the disconnect carries the number from before it, and desires a new set-up where it is not final.
+// A closing: the disconnect carries the number from before it, and desires a new set-up where it is not final.
 #[tactic(auto, unfolding(ground::specs::Choice::pick))]
 fn close_step(record: Record, own: u32, reason: u32, last: bool, out: &mut [u8]) -> Step
     ensures { (result ≡ writing_step (answer_of (writes_disconnect (end_of «record» own) «record».sending (pick last 0 1) reason [] out.old)) «record» (closed_by last «record») 5 (Event.Closed reason last)) × (out.new ≡ left_by (writes_disconnect (end_of «record» own) «record».sending (pick last 0 1) reason [] out.old) out.old) }
@@ -202,19 +203,31 @@ fn close_step(record: Record, own: u32, reason: u32, last: bool, out: &mut [u8])
     written_step(written, record, r, Telegram::Disconnect, event)
 }
 
-// The same for a tick, with its own lines on purpose: a function of this size that has two callers is compiled by itself, and record and step then go to it
-// and back through the stack of both (docs/DECISIONS.md, "Stack on the small card").
-#[tactic(auto, unfolding(ground::specs::Choice::pick))]
-fn close_on_tick(record: Record, own: u32, reason: u32, last: bool, out: &mut [u8]) -> Step
-    ensures { (result ≡ writing_step (answer_of (writes_disconnect (end_of «record» own) «record».sending (pick last 0 1) reason [] out.old)) «record» (closed_by last «record») 5 (Event.Closed reason last)) × (out.new ≡ left_by (writes_disconnect (end_of «record» own) «record».sending (pick last 0 1) reason [] out.old) out.old) }
+// The step that a verdict on a tick makes. What only a telegram can ask for is nothing here. It is compiled into both
+// of its callers: by itself, record and step would go to it and back through the stack of both (docs/DECISIONS.md,
+// "Stack on the small card").
+#[inline(always)]
+pub(crate) fn act_on_tick(
+    verdict: Verdict,
+    record: Record,
+    own: u32,
+    time: u64,
+    out: &mut [u8],
+) -> Step
+    ensures { (result ≡ act_of (on_tick verdict) «record» own time 0 0 [] [] out.old) × (out.new ≡ act_out (on_tick verdict) «record» own 0 0 [] [] out.old) }
 {
-    let end = end_of(record, own);
-    let r = closed_by(last, record);
-    let new_setup = !last as u32;
-    let number = record.sending;
-    let written = writers::write_disconnect(out, end, number, new_setup, reason, b"");
-    let event = Event::Closed { reason, last };
-    written_step(written, record, r, Telegram::Disconnect, event)
+    match verdict {
+        Verdict::SendIdle => idle_step(record, own, time, out),
+        Verdict::Close { reason, last } => close_step(record, own, reason, last, out),
+        Verdict::Nothing
+        | Verdict::Confirm
+        | Verdict::Authenticate
+        | Verdict::Acknowledge
+        | Verdict::Open
+        | Verdict::Data
+        | Verdict::Idle
+        | Verdict::Disconnected => quiet_step(record, Event::Nothing),
+    }
 }
 
 // The step that a verdict on a telegram makes.
@@ -237,32 +250,7 @@ pub(crate) fn act(
         Verdict::Open => quiet_step(after_taking(record, time), Event::Opened),
         Verdict::Data => quiet_step(after_taking(record, time), data_event(telegram)),
         Verdict::Idle => quiet_step(after_taking(record, time), Event::Nothing),
-        Verdict::SendIdle => idle_step(record, own, time, out),
         Verdict::Disconnected => disconnected_step(record, telegram),
-        Verdict::Close { reason, last } => close_step(record, own, reason, last, out),
-    }
-}
-
-// The step that a verdict on a tick makes. What only a telegram can ask for is nothing here.
-pub(crate) fn act_on_tick(
-    verdict: Verdict,
-    record: Record,
-    own: u32,
-    time: u64,
-    out: &mut [u8],
-) -> Step
-    ensures { (result ≡ act_of (on_tick verdict) «record» own time 0 0 [] [] out.old) × (out.new ≡ act_out (on_tick verdict) «record» own 0 0 [] [] out.old) }
-{
-    match verdict {
-        Verdict::SendIdle => idle_step(record, own, time, out),
-        Verdict::Close { reason, last } => close_on_tick(record, own, reason, last, out),
-        Verdict::Nothing
-        | Verdict::Confirm
-        | Verdict::Authenticate
-        | Verdict::Acknowledge
-        | Verdict::Open
-        | Verdict::Data
-        | Verdict::Idle
-        | Verdict::Disconnected => quiet_step(record, Event::Nothing),
+        Verdict::SendIdle | Verdict::Close { .. } => act_on_tick(verdict, record, own, time, out),
     }
 }

@@ -181,7 +181,8 @@ fn good_version(telegram: &[u8]) -> bool
     telegram::version_x(telegram) == 3 && telegram::version_y(telegram) == 0
 }
 
-// Whether an authentication number is our random number, changed as the level asks. Ours is that many before the number that we send next.
+// Whether an authentication number is our random number, changed as the level asks. Ours is that many before the number
+// that we send next.
 #[tactic(auto, unfolding(crate::specs::Judged::good_number))]
 fn good_number(record: Record, before: u32, telegram: &[u8]) -> bool
     ensures { result ≡ good_number «record» before telegram.now }

@@ -1,4 +1,5 @@
-// One connection: a record by value and the five steps of the Safe Link Layer over it, at levels 4 and 2. No other record, no table.
+// One connection: a record by value and the five steps of the Safe Link Layer over it, at levels 4 and 2. No other
+// record, no table.
 #![tactic(auto)]
 
 mod act;
@@ -52,7 +53,8 @@ pub enum Event {
     },
 }
 
-// The answer's number, and which telegram was written (0 none, 1 request, 2 confirm, 3 authentication, 4 acknowledgement, 5 disconnect, 6 idle, 7 data) with its length.
+// The answer's number, and which telegram was written (0 none, 1 request, 2 confirm, 3 authentication, 4
+// acknowledgement, 5 disconnect, 6 idle, 7 data) with its length.
 #[repr(C)]
 #[derive(Clone, Copy, Debug, Default, PartialEq, Eq)]
 pub struct Answer {

@@ -1,4 +1,5 @@
-// The phases of a connection, which are the columns of the table (5.5.1.5), and their numbers in a record. A zeroed record has none of them.
+// The phases of a connection, which are the columns of the table (5.5.1.5), and their numbers in a record. A zeroed
+// record has none of them.
 ghost use Rattle.std.specs.Prelude.{◌≡◌};
 ghost use Rattle.link.specs.Named.{phase_number, column};
 
@@ -12,6 +13,7 @@ pub(crate) enum Phase {
     FinallyClosed = 6,
 }
 
+// Their numbers, as a record has them.
 pub const CLOSED: u32 = Phase::Closed as u32;
 
 pub const CONFIRM_AWAITED: u32 = Phase::ConfirmAwaited as u32;
@@ -25,8 +27,8 @@ pub const OPEN: u32 = Phase::Open as u32;
 pub const FINALLY_CLOSED: u32 = Phase::FinallyClosed as u32;
 
 impl Phase {
-    // The phase of a record's number. The steps refuse a record with any other number before they ask for its phase; here 0 falls to the first column and a
-    // number above to the last, so that each number has a phase.
+    // The phase of a record's number. The steps refuse a record with any other number before they ask for its phase;
+    // here 0 falls to the first column and a number above to the last, so that each number has a phase.
     pub(crate) fn of(phase: u32) -> Phase
         ensures { phase_number result ≡ column phase }
     {

@@ -1,6 +1,6 @@
-// The five steps over one record: open, close, send, received, tick. Each writes at most one telegram into the lent buffer; a refused step changes nothing.
-// Their arguments are those that the scope names, one by one. Each begins with its refusals: three lines, shorter than a function around it that would take the
-// rest of the step as a closure.
+// The five steps over one record: open, close, send, received, tick. Each writes at most one telegram into the lent
+// buffer; a refused step changes nothing. Their arguments are those that the scope names, one by one. Each begins with
+// its refusals: three lines, shorter than a function around it that would take the rest of the step as a closure.
 ghost use Rattle.std.specs.Prelude.{◌≡◌, nat_le};
 ghost use Rattle.telegram.specs.Layout.{longest};
 ghost use Rattle.link.specs.Named.{number_of};

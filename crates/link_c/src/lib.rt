@@ -1,4 +1,5 @@
-// The five steps for C, on a record by value and plain numbers: for the second program that compares them, and in no archive that is installed.
+// The five steps for C, on a record by value and plain numbers: for the second program that compares them, and in no
+// archive that is installed.
 #![tactic(auto)]
 
 ghost use Rattle.std.specs.Prelude.{◌≡◌};
