@@ -24,29 +24,38 @@ fn declared_by(idle: Option<u32>) -> u32
     idle.unwrap_or(UNNAMED)
 }
 
-// The first refusal that holds of a step, in the scope's order.
-#[tactic(auto, using(ground::specs::Choice::tests), unfolding(crate::specs::Steps::first_refusal))]
-fn first_refusal(
-    record: Record,
-    own: u32,
-    room: usize,
+// What a step asks for beside record and buffer: a telegram that the bus can carry, a phase that it is for, values that
+// are allowed.
+#[derive(Clone, Copy)]
+struct Conditions {
     carried: bool,
     suited: bool,
     allowed: bool,
-) -> Result<(), Refusal>
-    ensures { number_of result ≡ first_refusal (record_in_range «record» own) (nat_le longest room) carried (neb «record».phase 6) suited allowed }
+}
+
+// As they are for a step that does not ask.
+const MET: Conditions = Conditions {
+    carried: true,
+    suited: true,
+    allowed: true,
+};
+
+// The first refusal that holds of a step, in the scope's order.
+#[tactic(auto, using(ground::specs::Choice::tests), unfolding(crate::specs::Steps::first_refusal))]
+fn first_refusal(record: Record, own: u32, room: usize, asked: Conditions) -> Result<(), Refusal>
+    ensures { number_of result ≡ first_refusal (record_in_range «record» own) (nat_le longest room) asked.carried (neb «record».phase 6) asked.suited asked.allowed }
 {
     if !record_in_range(record, own) {
         Err(Refusal::OutOfRange)
     } else if room < telegram::LONGEST {
         Err(Refusal::NoRoom)
-    } else if !carried {
+    } else if !asked.carried {
         Err(Refusal::BadTelegram)
     } else if record.phase == FINALLY_CLOSED {
         Err(Refusal::Ended)
-    } else if !suited {
+    } else if !asked.suited {
         Err(Refusal::WrongPhase)
-    } else if !allowed {
+    } else if !asked.allowed {
         Err(Refusal::BadValue)
     } else {
         Ok(())
@@ -84,9 +93,12 @@ pub fn open(
     ensures { (result ≡ open_of «record» own time random idle net.now out.old) × (out.new ≡ open_out «record» own random idle net.now out.old) }
 {
     let declared = declared_by(idle);
-    let allowed = writers::connect_allowed(declared, net.len(), record.level);
-    let suited = record.phase == CLOSED;
-    if let Err(refusal) = first_refusal(record, own, out.len(), true, suited, allowed) {
+    let asked = Conditions {
+        suited: record.phase == CLOSED,
+        allowed: writers::connect_allowed(declared, net.len(), record.level),
+        ..MET
+    };
+    if let Err(refusal) = first_refusal(record, own, out.len(), asked) {
         return refused_step(refusal as u32, record);
     }
     let end = end_of(record, own);
@@ -107,9 +119,12 @@ pub fn close(
 ) -> Step
     ensures { (result ≡ close_of «record» own new_setup reason text.now out.old) × (out.new ≡ close_out «record» own new_setup reason text.now out.old) }
 {
-    let allowed = writers::disconnect_allowed(new_setup, reason, text.len(), record.level);
-    let suited = record.phase != CLOSED;
-    if let Err(refusal) = first_refusal(record, own, out.len(), true, suited, allowed) {
+    let asked = Conditions {
+        suited: record.phase != CLOSED,
+        allowed: writers::disconnect_allowed(new_setup, reason, text.len(), record.level),
+        ..MET
+    };
+    if let Err(refusal) = first_refusal(record, own, out.len(), asked) {
         return refused_step(refusal as u32, record);
     }
     let end = end_of(record, own);
@@ -125,9 +140,12 @@ pub fn close(
 pub fn send(record: Record, own: u32, time: u64, command: u32, net: &[u8], out: &mut [u8]) -> Step
     ensures { (result ≡ send_of «record» own time command net.now out.old) × (out.new ≡ send_out «record» own command net.now out.old) }
 {
-    let allowed = writers::data_allowed(command, net.len(), record.level);
-    let suited = record.phase == OPEN;
-    if let Err(refusal) = first_refusal(record, own, out.len(), true, suited, allowed) {
+    let asked = Conditions {
+        suited: record.phase == OPEN,
+        allowed: writers::data_allowed(command, net.len(), record.level),
+        ..MET
+    };
+    if let Err(refusal) = first_refusal(record, own, out.len(), asked) {
         return refused_step(refusal as u32, record);
     }
     let end = end_of(record, own);
@@ -151,9 +169,12 @@ pub fn received(
     ensures { (result ≡ received_of «record» own time random idle telegram.now net.now out.old) × (out.new ≡ received_out «record» own time random idle telegram.now net.now out.old) }
 {
     let declared = declared_by(idle);
-    let allowed = writers::connect_allowed(declared, net.len(), record.level);
-    let carried = telegram::on_bus(telegram.len());
-    if let Err(refusal) = first_refusal(record, own, out.len(), carried, true, allowed) {
+    let asked = Conditions {
+        carried: telegram::on_bus(telegram.len()),
+        allowed: writers::connect_allowed(declared, net.len(), record.level),
+        ..MET
+    };
+    if let Err(refusal) = first_refusal(record, own, out.len(), asked) {
         return refused_step(refusal as u32, record);
     }
     let verdict = judge(record, own, time, telegram);
@@ -170,7 +191,7 @@ pub fn received(
 pub fn tick(record: Record, own: u32, time: u64, out: &mut [u8]) -> Step
     ensures { (result ≡ tick_of «record» own time out.old) × (out.new ≡ tick_out «record» own time out.old) }
 {
-    if let Err(refusal) = first_refusal(record, own, out.len(), true, true, true) {
+    if let Err(refusal) = first_refusal(record, own, out.len(), MET) {
         return refused_step(refusal as u32, record);
     }
     let verdict = judge_tick(record, time);
