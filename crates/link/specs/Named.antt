@@ -1,8 +1,6 @@
--- The numbers of what the code has names for: phases, the telegrams of an answer, the refusals of a step.
+-- The numbers of what the code has names for: phases, the telegrams of an answer.
 -- Assumes nothing.
-use Rattle.std.specs.Prelude.{ℕ, max, min, Result, Ok, Err}
-use Rattle.telegram.specs.declared.Refusal.{Refusal}
-use Rattle.telegram.specs.declared.Refusal.TheVariants as refusal
+use Rattle.std.specs.Prelude.{ℕ, max, min}
 use Rattle.link.specs.declared.phases.Phase.{Phase}
 use Rattle.link.specs.declared.phases.Phase.TheVariants as phase
 use Rattle.link.specs.declared.act.Telegram.{Telegram}
@@ -30,19 +28,3 @@ telegram_number telegram.Acknowledgement = 4
 telegram_number telegram.Disconnect = 5
 telegram_number telegram.Idle = 6
 telegram_number telegram.Data = 7
-
--- The refusals (`first_refusal` in Steps.antt).
-abbrev pub refusal_number : Refusal → ℕ
-refusal_number refusal.OutOfRange = 1
-refusal_number refusal.NoRecord = 2
-refusal_number refusal.WrongPhase = 3
-refusal_number refusal.NoRoom = 4
-refusal_number refusal.BadValue = 5
-refusal_number refusal.BadTelegram = 6
-refusal_number refusal.TimeBackwards = 7
-refusal_number refusal.Ended = 8
-
--- 0 where there is none.
-abbrev pub number_of : Result Unit Refusal → ℕ
-number_of (Ok done) = 0
-number_of (Err r) = refusal_number r

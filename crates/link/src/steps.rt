@@ -3,7 +3,7 @@
 // its refusals: three lines, shorter than a function around it that would take the rest of the step as a closure.
 ghost use Rattle.std.specs.Prelude.{◌≡◌, nat_le};
 ghost use Rattle.telegram.specs.Layout.{longest};
-ghost use Rattle.link.specs.Named.{number_of};
+ghost use Rattle.telegram.specs.Refusals.{answered};
 ghost use Rattle.link.specs.Records.{become, record_in_range};
 ghost use Rattle.link.specs.Steps.{next, neb, first_refusal, declared_by, open_of, open_out, close_of, close_out, send_of, send_out, received_of, received_out, tick_of, tick_out};
 
@@ -43,7 +43,7 @@ const MET: Conditions = Conditions {
 // The first refusal that holds of a step, in the scope's order.
 #[tactic(auto, using(ground::specs::Choice::tests), unfolding(crate::specs::Steps::first_refusal))]
 fn first_refusal(record: Record, own: u32, room: usize, asked: Conditions) -> Result<(), Refusal>
-    ensures { number_of result ≡ first_refusal (record_in_range «record» own) (nat_le longest room) asked.carried (neb «record».phase 6) asked.suited asked.allowed }
+    ensures { answered result ≡ first_refusal (record_in_range «record» own) (nat_le longest room) asked.carried (neb «record».phase 6) asked.suited asked.allowed }
 {
     if !record_in_range(record, own) {
         Err(Refusal::OutOfRange)

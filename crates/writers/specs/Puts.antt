@@ -1,35 +1,19 @@
--- What the writers share: the refusal that is told as a number, and a telegram that is put at the front of a buffer unless it is refused.
+-- What the writers share: what is told of a refusal, and a telegram that is put at the front of a buffer unless it is refused.
 -- Assumes nothing.
 use Rattle.std.specs.Prelude.{Bool, List, ℕ, ◌+◌, ◌≤◌, ◌<◌, length, Result, Ok, Err}
 use Rattle.telegram.specs.Levels.{word_length}
 use Rattle.telegram.specs.Layout.{longest}
 use Rattle.telegram.specs.Telegrams.{body, sealed}
+use Rattle.telegram.specs.Refusals.{refusal_number}
 use Rattle.telegram.specs.Writers.{Outcome, refusal, unless}
 use Rattle.telegram.specs.declared.End.{End}
 use Rattle.telegram.specs.declared.Written.{Written}
 use Rattle.telegram.specs.declared.Refusal.{Refusal}
-use Rattle.telegram.specs.declared.Refusal.TheVariants.{OutOfRange, NoRecord, WrongPhase, NoRoom, BadValue, BadTelegram, TimeBackwards, Ended}
-
--- The number that a caller is answered.
-abbrev pub number : Refusal → ℕ
-number OutOfRange = 1
-number NoRecord = 2
-number WrongPhase = 3
-number NoRoom = 4
-number BadValue = 5
-number BadTelegram = 6
-number TimeBackwards = 7
-number Ended = 8
-
--- 0 where there is no refusal.
-abbrev pub answer : {A : Type 0} → Result A Refusal → ℕ
-answer (Ok x) = 0
-answer (Err e) = number e
 
 -- What the caller of a writer is told of a length or a refusal.
 abbrev pub told : Result ℕ Refusal → Written
 told (Ok n) = record { answer = 0; length = n }
-told (Err e) = record { answer = number e; length = 0 }
+told (Err e) = record { answer = refusal_number e; length = 0 }
 
 -- Head, fixed fields, net data and check word fit the longest telegram, and the command's low bits are six.
 abbrev pub Suits : End → ℕ → List ℕ → List ℕ → Type 0

@@ -4,10 +4,11 @@ ghost use Rattle.std.specs.Prelude.{◌≡◌, ◌+◌, ◌<◌, ◌≤◌, [], 
 ghost use Rattle.telegram.specs.Levels.{word_length};
 ghost use Rattle.telegram.specs.Layout.{layout, field_bytes};
 ghost use Rattle.telegram.specs.Telegrams.{body, sealed, version_and_bus, authentication_number};
+ghost use Rattle.telegram.specs.Refusals.{answered};
 ghost use Rattle.telegram.specs.Writers.{answer_of, left_by, unless, refusal, connect_allowed, disconnect_allowed, data_allowed};
 ghost use Rattle.telegram.specs.Writers.{writes_request, writes_confirm, writes_authentication, writes_acknowledgement};
 ghost use Rattle.telegram.specs.Writers.{writes_disconnect, writes_idle, writes_data};
-ghost use Rattle.writers.specs.Puts.{Suits, answer, told, puts};
+ghost use Rattle.writers.specs.Puts.{Suits, told, puts};
 ghost use Rattle.telegram.specs.Writers.Outcome.{wrote};
 
 use crate::put::{copy_at, put_word};
@@ -42,7 +43,7 @@ fn told(outcome: Result<u32, Refusal>) -> Written
 // The first refusal that holds is the answer.
 #[tactic(auto, using(ground::specs::Choice::tests), unfolding(telegram::specs::Writers::refusal))]
 fn permit(end: End, room: usize, allowed: bool) -> Result<(), Refusal>
-    ensures { answer result ≡ refusal end room allowed }
+    ensures { answered result ≡ refusal end room allowed }
 {
     if !in_range(end) {
         return Err(Refusal::OutOfRange);
