@@ -36,7 +36,7 @@ use Rattle.link.specs.declared.Stepped.{Stepped}
 use Rattle.firmware.specs.Ends.{end_of}
 use Rattle.node.specs.Heads.{new_head}
 use Rattle.node.specs.Accepted.{accepted}
-use Rattle.node.specs.Matching.{route_by, first_match}
+use Rattle.node.specs.Matching.{route_by, place_in, first_match}
 use Rattle.node.specs.Calls.{called}
 use Rattle.node.specs.Calls.Call.{Open, Close, Send, Received, Tick}
 use Rattle.node.specs.Plain.{data_of}
@@ -274,7 +274,7 @@ pub record Node : Type 0 where
   -- src/accepted.rt: which tables are accepted
   pub table_accepted : (table : List Record) (head : Head) → Unique (λ (b : Bool). b ≡ accepted head table)
   -- src/matching.rt: which record a telegram is for, and what it was sent under
-  pub first_match : (table : List Record) (route : Route) → Unique (λ (n : ℕ). n ≡ first_match route table)
+  pub first_match : (table : List Record) (route : Route) → Unique (λ (place : Option ℕ). place ≡ place_in table (first_match route table))
   pub route_by : (sender destination_sap source_sap : ℕ) → Unique (λ (w : Route). w ≡ route_by sender destination_sap source_sap)
   -- src/calls.rt: the five calls
   pub «open» : (table : List Record) (head : Head) (time place random : ℕ) (idle : Option ℕ) (net out : List ℕ)

@@ -34,7 +34,7 @@ fn all_accepted(table: &[Record], head: Head) -> bool
 }
 
 // Whether two records agree in partner address and both SAPs. The search stops at the first pair found. The fields are compared here, and not as routes by `==`:
-// that took up to 1.6 times as long on 64 records, and this loop runs at every call.
+// that took up to 2.5 times as long on 64 records, and this loop runs at every call.
 fn has_pair(table: &[Record]) -> bool
     ensures { result ≡ has_pair table.now }
 {
