@@ -59,10 +59,7 @@ pub fn net_data(telegram: &[u8], event: Event) -> &[u8]
     let part = data_part(event);
     let start = part.start as usize;
     let end = start + part.count as usize;
-    if telegram.len() < end {
-        return &telegram[0..0];
-    }
-    &telegram[start..end]
+    telegram.get(start..end).unwrap_or(&[])
 }
 
 // The outcome as plain numbers, for C: of data, where they lie in the telegram received.
