@@ -4,9 +4,10 @@ use mathlib.Core.Path.{◌≡◌, refl, sym, ap, ◌∙◌}
 use mathlib.Core.Bool.{Bool, true, false, not}
 use mathlib.Core.List.{List}
 use Prim.Native.Nat.{ℕ, ◌<◌, ◌+◌}
+use native.Mathlib.Omega.{arith}
 use lib.ListN.{length, set}
 use lib.Dec.{T, ltb, eqb}
-use borrow.Author.Tests.{eq-eqb, lt-ltb}
+use borrow.Author.Tests.{ne_eqb, eq-eqb, lt-ltb}
 use denote.Enum.Declared.{tag_of}
 use Rattle.telegram.specs.contracts.Refusal.{the_type}
 use Rattle.telegram.specs.declared.Refusal.{Refusal}
@@ -21,7 +22,7 @@ use Rattle.node.specs.Refusals.{number_of, before}
 use Rattle.node.specs.Calls.{Call, place_of, carried_by, step_of, step_out, refused_outcome, settled}
 use Rattle.node.proofs.Order.{Said, refused_by_table, left_by_step}
 
--- a refusal's number is the one that the code has of it, and no refusal's is 0
+-- a refusal's number is the one that the code has of it
 pub number_is : (e : Refusal) → tag_of the_type e + 1 ≡ number_of e
 number_is OutOfRange = refl
 number_is NoRecord = refl
@@ -32,15 +33,9 @@ number_is BadTelegram = refl
 number_is TimeBackwards = refl
 number_is Ended = refl
 
-number_not_zero : (e : Refusal) → eqb (number_of e) 0 ≡ false
-number_not_zero OutOfRange = refl
-number_not_zero NoRecord = refl
-number_not_zero WrongPhase = refl
-number_not_zero NoRoom = refl
-number_not_zero BadValue = refl
-number_not_zero BadTelegram = refl
-number_not_zero TimeBackwards = refl
-number_not_zero Ended = refl
+-- and not 0
+not_zero : (e : Refusal) → eqb (number_of e) 0 ≡ false
+not_zero e = ne_eqb (number_of e) 0 (λ z. let is = number_is e in omega arith)
 
 -- two places that the table has or has not alike
 there_alike : (t : List Record) (i k : ℕ) → place_in t i ≡ place_in t k → ltb i (length t) ≡ ltb k (length t)
@@ -62,7 +57,7 @@ module _ (c : Call) (h : Head) (t : List Record) (time : ℕ) (d : List ℕ) whe
   unfolding before
   call_refused place carried e u same k n is =
       let m : number_of e ≡ before h t time (length d) (carried_by c) (place_of c t) = rw (← k, ← there_alike t place (place_of c t) same) n in
-      let f = number_not_zero e in let g : T (not (eqb (before h t time (length d) (carried_by c) (place_of c t)) 0)) = rw (← m, f) tt in
+      let f = not_zero e in let g : T (not (eqb (before h t time (length d) (carried_by c) (place_of c t)) 0)) = rw (← m, f) tt in
       let said = refused_by_table c h t time d g in (is ∙ ap (λ x. refused_outcome x h) (number_is e ∙ m) ∙ said.0, said.1)
 
   -- else the record has what the step leaves

@@ -31,10 +31,9 @@ module _ (e : Event) (p : Part) (t : List ℕ) where
       count_is a n = omega arith
 
   -- what `get` says of the part from its start to its end, with nothing where it has none
-  pub got_within : (o : Option (Bor (List ℕ))) (nothing : Bor (List ℕ)) → p ≡ part_of e → nothing.now ≡ []
-      → MatchOption o ((end < p.start) ⊎ (length t < end))
-      (λ x. (p.start ≤ end) × (end ≤ length t) × (x.now ≡ slice_range t p.start end) × (length x.now + p.start ≡ end))
-      → (unwrap_or o nothing).now ≡ data_of e t
-  got_within None nothing q n (inl l) = absurd (omega arith)
-  got_within None nothing q n (inr l) = n ∙ none_within q l
-  got_within (Some x) nothing q n m = m.2 ∙ part_within q m.1
+  pub got_within : (o : Option (Bor (List ℕ))) (r nothing : Bor (List ℕ)) → r ≡ unwrap_or o nothing → p ≡ part_of e → nothing.now ≡ []
+      → MatchOption o ((end < p.start) ⊎ (length t < end)) (λ x. (p.start ≤ end) × (end ≤ length t) × (x.now ≡ slice_range t p.start end) × (length x.now + p.start ≡ end))
+      → r.now ≡ data_of e t
+  got_within None r nothing u q n (inl l) = absurd (omega arith)
+  got_within None r nothing u q n (inr l) = ap (λ x. x.now) u ∙ n ∙ none_within q l
+  got_within (Some x) r nothing u q n m = ap (λ y. y.now) u ∙ m.2 ∙ part_within q m.1

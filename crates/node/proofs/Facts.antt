@@ -257,9 +257,6 @@ stays_accepted c h t time d e = by (eqb (k c h t time d) 0) refl
 
 -- Which record a telegram is for
 
-true_false : {A : Type 0} → ◌≡◌ {A = Bool} true false → A
-true_false z = let n : ◌≡◌ {A = ℕ} 0 1 = cc in absurd (omega arith)
-
 found : (w : Route) (t : List Record) → first_match w t < length t → is_for w (record_at t (first_match w t)) ≡ true
 unfolding pick
 found w [] l = absurd (not-suc-le-zero l)
@@ -273,7 +270,7 @@ found w (r ∷ rs) l = by (is_for w r) refl (found w rs) l
 both : (a b : Bool) → a && b ≡ true → (a ≡ true) × (b ≡ true)
 both true true e = (refl, refl)
 both true false e = (refl, e)
-both false b e = true_false (sym e)
+both false b e = cc
 
 -- two records that a telegram is for are alike
 alike_by : (w : Route) (a b : Record) → is_for w a ≡ true → is_for w b ≡ true → alike a b ≡ true
@@ -302,9 +299,9 @@ only w (r ∷ rs) zero z l e = rw e refl
 only w (r ∷ rs) (suc i) z l e = by (is_for w r) (has_like r rs) refl refl (λ y. only w rs i y (le_of_suc-le-suc l) e) z
   where
     by : (b c : Bool) → is_for w r ≡ b → has_like r rs ≡ c → (has_pair rs ≡ false → first_match w rs ≡ i) → pick c true (has_pair rs) ≡ false → pick b zero (suc (first_match w rs)) ≡ suc i
-    by b true p q later y = true_false y
+    by b true p q later y = cc
     by false false p q later y = ap suc (later y)
-    by true false p q later y = true_false (sym (like_at r rs i (le_of_suc-le-suc l) (alike_by w r (record_at rs i) p e)) ∙ q)
+    by true false p q later y = let like = like_at r rs i (le_of_suc-le-suc l) (alike_by w r (record_at rs i) p e) in cc
 
 no_pair_holds : (t : List Record) → not (has_pair t) ≡ true → has_pair t ≡ false
 no_pair_holds t e = by (has_pair t) e

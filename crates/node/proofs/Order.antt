@@ -22,6 +22,7 @@ use Rattle.node.specs.Accepted.{record_at, bounds_accepted, record_accepted, all
 use Rattle.node.specs.Refusals.{order, of_record, first, before}
 use Rattle.node.specs.Calls.{Call, place_of, carried_by, asked, step_of, step_out, refused_outcome, settled, called}
 use Rattle.node.specs.Calls.Call.{Open, Close, Send, Received, Tick}
+use Rattle.node.proofs.Searches.{pick_true, pick_false}
 
 -- the five tests of the table, then the rest
 table_first : (a r t c p : Bool) (rest : ℕ) → pick a (pick r (pick t (pick c (pick p rest 2) 6) 7) 4) 1
@@ -128,18 +129,10 @@ is_yes : (b : Bool) → T b → b ≡ true
 is_yes true g = refl
 is_yes false g = absurd g
 
-picked_no : (b : Bool) (x y : ℕ) → b ≡ false → pick b x y ≡ y
-unfolding pick
-picked_no b x y e = rw e refl
-
-picked_yes : (b : Bool) (x y : ℕ) → b ≡ true → pick b x y ≡ x
-unfolding pick
-picked_yes b x y e = rw e refl
-
 -- a refusal of the table is the first of the whole list
 pub refused_answered : (c : Call) (h : Head) (t : List Record) (time : ℕ) (d : List ℕ) → T (not (eqb (before h t time (length d) (carried_by c) (place_of c t)) 0))
     → first (order (asked c h t time d)) ≡ before h t time (length d) (carried_by c) (place_of c t)
-refused_answered c h t time d z = by_table c h t time d ∙ picked_no _ _ _ (is_no _ z)
+refused_answered c h t time d z = by_table c h t time d ∙ pick_false _ _ _ (is_no _ z)
 
 pub refused_by_table : (c : Call) (h : Head) (t : List Record) (time : ℕ) (d : List ℕ) → T (not (eqb (before h t time (length d) (carried_by c) (place_of c t)) 0))
     → Said c h t time d (refused_outcome (before h t time (length d) (carried_by c) (place_of c t)) h) t d
@@ -172,7 +165,7 @@ pub answered_by : (c : Call) (h : Head) (t : List Record) (time : ℕ) (d : List
     → first (order (asked c h t time d)) ≡ refusal_of c (record_at t (place_of c t)) h.own d
 answered_by c h t time d z =
     let fine = fine_by c h t time d z in
-    by_table c h t time d ∙ picked_yes _ _ _ (is_yes _ z) ∙ sym (own_refusal c h t time d (in_range_at h t (place_of c t) fine.table (placed c h t time d z)) fine.room fine.carried)
+    by_table c h t time d ∙ pick_true _ _ _ (is_yes _ z) ∙ sym (own_refusal c h t time d (in_range_at h t (place_of c t) fine.table (placed c h t time d z)) fine.room fine.carried)
 
 pub left_by_step : (c : Call) (h : Head) (t : List Record) (time : ℕ) (d : List ℕ) → T (eqb (before h t time (length d) (carried_by c) (place_of c t)) 0)
     → Said c h t time d (settled (step_of c (record_at t (place_of c t)) h.own time d) h time) (set t (place_of c t) (step_of c (record_at t (place_of c t)) h.own time d).«record»)

@@ -6,7 +6,7 @@ use crate::Route;
 use link::Record;
 
 // What the telegrams for a record are sent under.
-pub(crate) fn route_of(record: &Record) -> Route
+fn route_of(record: &Record) -> Route
     ensures { result ≡ route_of «record».now }
 {
     Route {
