@@ -102,6 +102,8 @@ link =
       received = λ «record» own time random idle telegram net out. unique₂;
       tick = λ «record» own time out. unique₂;
       idle_time_by = λ named time. unique;
+      happened_from_event = λ event. unique;
+      stepped_from_step = λ step. unique;
     }
 
 link_c : LinkC
@@ -143,7 +145,7 @@ node =
       received = λ table head time route random idle telegram net out. unique₃;
       tick = λ table head time place out. unique₃;
       net_data = λ telegram event. unique;
-      plain_outcome = λ outcome. unique;
+      plain_outcome_from_outcome = λ outcome. unique;
     }
 
 node_c : NodeC

@@ -27,11 +27,12 @@ use Rattle.telegram.specs.declared.Written.{Written}
 use Rattle.telegram.specs.declared.Part.{Part}
 use Rattle.link.specs.Records.{record_in_range, fresh_of}
 use Rattle.link.specs.Steps.{open_of, open_out, close_of, close_out, send_of, send_out, received_of, received_out, tick_of, tick_out}
-use Rattle.link.specs.Plain.{idle_time_by}
+use Rattle.link.specs.Plain.{idle_time_by, happened}
 use Rattle.link.specs.Plain as link
 use Rattle.link.specs.declared.Record.{Record}
 use Rattle.link.specs.declared.Event.{Event}
 use Rattle.link.specs.declared.Step.{Step}
+use Rattle.link.specs.declared.Happened.{Happened}
 use Rattle.link.specs.declared.Stepped.{Stepped}
 use Rattle.firmware.specs.Ends.{end_of}
 use Rattle.node.specs.Heads.{new_head}
@@ -205,6 +206,8 @@ pub record Link : Type 0 where
       × (out' ≡ tick_out «record» own time out))
   -- src/plain.rt: what C says and is told in plain numbers
   pub idle_time_by : (named time : ℕ) → Unique (λ (i : Option ℕ). i ≡ idle_time_by named time)
+  pub happened_from_event : (event : Event) → Unique (λ (h : Happened). h ≡ happened event)
+  pub stepped_from_step : (step : Step) → Unique (λ (s : Stepped). s ≡ link.plain step)
 
 -- The public functions of `link_c`.
 pub record LinkC : Type 0 where
@@ -304,7 +307,7 @@ pub record Node : Type 0 where
       × (out' ≡ (called (Tick place) head table time out).out)))
   -- src/outcomes.rt: the net data of an event, and an outcome as plain numbers
   pub net_data : (telegram : List ℕ) (event : Event) → Unique (λ (r : List ℕ). r ≡ data_of event telegram)
-  pub plain_outcome : (outcome : Outcome) → Unique (λ (p : PlainOutcome). p ≡ node.plain outcome)
+  pub plain_outcome_from_outcome : (outcome : Outcome) → Unique (λ (p : PlainOutcome). p ≡ node.plain outcome)
 
 -- The public functions of `node_c`.
 pub record NodeC : Type 0 where

@@ -15,7 +15,7 @@ pub fn idle_time_by(named: u32, time: u32) -> Option<u32>
 // What happened, as plain numbers.
 #[tactic(auto, unfolding(ground::specs::Choice::pick))]
 impl From<Event> for Happened {
-    ghost from_gives = { λ e h. h ≡ happened e };
+    ghost from_gives = { λ event numbers. numbers ≡ happened event };
 
     fn from(event: Event) -> Happened {
         let unused = Happened::default();
@@ -46,7 +46,7 @@ impl From<Event> for Happened {
 // A step as plain numbers.
 #[tactic(auto, unfolding(crate::specs::Plain::plain))]
 impl From<Step> for Stepped {
-    ghost from_gives = { λ s p. p ≡ plain s };
+    ghost from_gives = { λ step numbers. numbers ≡ plain step };
 
     fn from(step: Step) -> Stepped {
         Stepped {

@@ -18,12 +18,13 @@ use Rattle.node.specs.declared.Head.{Head}
 use Rattle.node.specs.declared.Outcome.{Outcome}
 use Rattle.node.specs.Accepted.{record_at}
 use Rattle.node.specs.Matching.{place_in}
-use Rattle.node.specs.Refusals.{number_of, before}
+use Rattle.telegram.specs.Refusals.{refusal_number}
+use Rattle.node.specs.Refusals.{before}
 use Rattle.node.specs.Calls.{Call, place_of, carried_by, step_of, step_out, refused_outcome, settled}
 use Rattle.node.proofs.Order.{Said, refused_by_table, left_by_step}
 
 -- a refusal's number is the one that the code has of it
-pub number_is : (e : Refusal) → tag_of the_type e + 1 ≡ number_of e
+pub number_is : (e : Refusal) → tag_of the_type e + 1 ≡ refusal_number e
 number_is OutOfRange = refl
 number_is NoRecord = refl
 number_is WrongPhase = refl
@@ -34,8 +35,8 @@ number_is TimeBackwards = refl
 number_is Ended = refl
 
 -- and not 0
-not_zero : (e : Refusal) → eqb (number_of e) 0 ≡ false
-not_zero e = ne_eqb (number_of e) 0 (λ z. let is = number_is e in omega arith)
+not_zero : (e : Refusal) → eqb (refusal_number e) 0 ≡ false
+not_zero e = ne_eqb (refusal_number e) 0 (λ z. let is = number_is e in omega arith)
 
 -- two places that the table has or has not alike
 there_alike : (t : List Record) (i k : ℕ) → place_in t i ≡ place_in t k → ltb i (length t) ≡ ltb k (length t)
@@ -53,10 +54,10 @@ same_place t i k e l = let p = lt-ltb i (length t) l in let q = sym (there_alike
 module _ (c : Call) (h : Head) (t : List Record) (time : ℕ) (d : List ℕ) where
   -- it is refused: table and buffer as they were
   pub call_refused : (place : ℕ) (carried : Bool) (e : Refusal) (u : Outcome) → place_in t place ≡ place_in t (place_of c t) → carried ≡ carried_by c
-      → number_of e ≡ before h t time (length d) carried place → u ≡ refused_outcome (tag_of the_type e + 1) h → Said c h t time d u t d
+      → refusal_number e ≡ before h t time (length d) carried place → u ≡ refused_outcome (tag_of the_type e + 1) h → Said c h t time d u t d
   unfolding before
   call_refused place carried e u same k n is =
-      let m : number_of e ≡ before h t time (length d) (carried_by c) (place_of c t) = rw (← k, ← there_alike t place (place_of c t) same) n in
+      let m : refusal_number e ≡ before h t time (length d) (carried_by c) (place_of c t) = rw (← k, ← there_alike t place (place_of c t) same) n in
       let f = not_zero e in let g : T (not (eqb (before h t time (length d) (carried_by c) (place_of c t)) 0)) = rw (← m, f) tt in
       let said = refused_by_table c h t time d g in (is ∙ ap (λ x. refused_outcome x h) (number_is e ∙ m) ∙ said.0, said.1)
 

@@ -3,8 +3,6 @@
 use Rattle.std.specs.Prelude.{Bool, true, List, [], ◌∷◌, ◌++◌, ℕ, length, leb, ltb}
 use Rattle.ground.specs.Choice.{pick}
 use Rattle.telegram.specs.Layout.{longest}
-use Rattle.telegram.specs.declared.Refusal.{Refusal}
-use Rattle.telegram.specs.declared.Refusal.TheVariants.{OutOfRange, NoRecord, WrongPhase, NoRoom, BadValue, BadTelegram, TimeBackwards, Ended}
 use Rattle.link.specs.declared.Record.{Record}
 use Rattle.node.specs.declared.Head.{Head}
 use Rattle.node.specs.Accepted.{accepted}
@@ -52,14 +50,3 @@ until_place table room timely carried placed =
 -- The first refusal of a call before the record is looked at, or 0.
 unfoldable pub before : Head → List Record → ℕ → ℕ → Bool → ℕ → ℕ
 before h t time room carried place = first (of_table (until_place (accepted h t) (leb longest room) (leb h.latest time) carried (ltb place (length t))))
-
--- A refusal's number.
-abbrev pub number_of : Refusal → ℕ
-number_of OutOfRange = 1
-number_of NoRecord = 2
-number_of WrongPhase = 3
-number_of NoRoom = 4
-number_of BadValue = 5
-number_of BadTelegram = 6
-number_of TimeBackwards = 7
-number_of Ended = 8

@@ -14,7 +14,7 @@ pub use calls::{close, open, received, send, tick};
 pub use heads::new_head;
 use link::{Answer, Event, Happened};
 pub use matching::{first_match, route_by};
-pub use outcomes::{net_data, plain_outcome};
+pub use outcomes::net_data;
 
 // The node's own bus address and the latest time seen, given to each call and handed back by it.
 #[repr(C)]

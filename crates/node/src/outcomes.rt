@@ -64,44 +64,37 @@ pub fn net_data(telegram: &[u8], event: Event) -> &[u8]
 
 // The outcome as plain numbers, for C: of data, where they lie in the telegram received.
 #[tactic(auto, unfolding(crate::specs::Plain::plain))]
-pub fn plain_outcome(outcome: Outcome) -> PlainOutcome
-    ensures { result ≡ plain outcome }
-{
-    let Outcome {
-        head,
-        answer,
-        event,
-    } = outcome;
-    let Event::Data {
-        command,
-        start,
-        count,
-    } = event
-    else {
-        return PlainOutcome {
-            head,
-            answer,
-            happened: Happened::from(event),
-        };
-    };
-    PlainOutcome {
-        head,
-        answer,
-        happened: Happened {
-            event: 2,
-            command,
-            start,
-            count,
-            reason: 0,
-            last: 0,
-        },
-    }
-}
-
 impl From<Outcome> for PlainOutcome {
     ghost from_gives = { λ outcome numbers. numbers ≡ plain outcome };
 
-    fn from(outcome: Outcome) -> Self {
-        plain_outcome(outcome)
+    fn from(outcome: Outcome) -> PlainOutcome {
+        let Outcome {
+            head,
+            answer,
+            event,
+        } = outcome;
+        let Event::Data {
+            command,
+            start,
+            count,
+        } = event
+        else {
+            return PlainOutcome {
+                head,
+                answer,
+                happened: Happened::from(event),
+            };
+        };
+        PlainOutcome {
+            head,
+            answer,
+            happened: Happened {
+                event: 2,
+                command,
+                start,
+                count,
+                ..Happened::default()
+            },
+        }
     }
 }

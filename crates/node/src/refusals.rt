@@ -1,6 +1,7 @@
 // The refusals before the record is looked at, in their order: table, buffer, time, the telegram's length, the record's place. The record's own are the step's.
 ghost use Rattle.std.specs.Prelude.{◌≡◌, ◌<◌, length, Some, IfOk, IfErr, unwrap_or};
-ghost use Rattle.node.specs.Refusals.{number_of, before};
+ghost use Rattle.telegram.specs.Refusals.{refusal_number};
+ghost use Rattle.node.specs.Refusals.{before};
 
 use crate::Head;
 use crate::accepted::table_accepted;
@@ -20,7 +21,7 @@ pub(crate) fn admitted(
     place: Option<usize>,
 ) -> Result<usize, Refusal>
     ensures placed { IfOk result (λ i. (place ≡ Some i) × (i < length table.now) × (before head table.now time room carried i ≡ 0)) }
-    ensures refused { IfErr result (λ refusal. number_of refusal ≡ before head table.now time room carried (unwrap_or place (length table.now))) }
+    ensures refused { IfErr result (λ refusal. refusal_number refusal ≡ before head table.now time room carried (unwrap_or place (length table.now))) }
 {
     if !table_accepted(table, head) {
         return Err(Refusal::OutOfRange);
