@@ -5,11 +5,11 @@ ghost use Rattle.telegram.specs.Values.{good_fields};
 ghost use Rattle.telegram.specs.Check.{number_used, word_agrees, clauses, first_failing, Passes, Failed, check_of, answer_number};
 
 use crate::numbers::number_of;
-use ground::{byte, bytes_at};
+use ground::byte;
 use telegram::{
-    Check, Clause, End, Kind, Refusal, Unfit, good_dual_bus, good_idle, good_type, in_range,
-    is_known, kind_of_telegram, length_suits, level_of, on_bus, receiving_bytes, word_length,
-    word_of,
+    Check, Clause, End, Kind, Refusal, Unfit, disconnect_type, good_dual_bus, good_idle, good_type,
+    idle_time, in_range, is_known, kind_of_telegram, length_suits, level_of, on_bus, random_number,
+    receiving_bytes, word_length, word_of,
 };
 
 // The number that a telegram is checked with: its own random number for request and confirm, else the expected one.
@@ -17,7 +17,7 @@ fn number_used(kind: Kind, expected: u32, t: &[u8]) -> u32
     ensures { result ≡ number_used kind expected (values kind t.now) }
 {
     match kind {
-        Kind::Request | Kind::Confirm => u32::from_le_bytes(bytes_at(t, 2)),
+        Kind::Request | Kind::Confirm => random_number(t),
         Kind::Authentication
         | Kind::Acknowledgement
         | Kind::Disconnect
@@ -34,10 +34,9 @@ fn fields_in_range(kind: Kind, t: &[u8]) -> bool
 {
     match kind {
         Kind::Request | Kind::Confirm => {
-            let idle_time = u16::from_le_bytes(bytes_at(t, 6));
-            good_idle(idle_time as u32) && good_dual_bus(byte(t, 11) as u32)
+            good_idle(idle_time(t)) && good_dual_bus(byte(t, 11) as u32)
         }
-        Kind::Disconnect => good_type(byte(t, 2) as u32),
+        Kind::Disconnect => good_type(disconnect_type(t)),
         Kind::Authentication | Kind::Acknowledgement | Kind::Idle | Kind::Data | Kind::Unknown => {
             true
         }
