@@ -1,4 +1,5 @@
-// The five calls. Each refuses what concerns the table, and else applies the step of one connection to one record, where it stands.
+// The five calls. Each refuses what concerns the table, and else applies the step of one connection to one record,
+// where it stands.
 ghost use Rattle.std.specs.Prelude.{◌≡◌, length, unwrap_or};
 ghost use Rattle.node.specs.Matching.{place_in};
 ghost use Rattle.node.specs.Calls.{Call, place_of, carried_by, TakesStep, called};
@@ -10,9 +11,9 @@ use crate::refusals::admitted;
 use crate::{Head, Outcome, Route};
 use link::{Record, Step};
 
-// What the five calls share: where nothing refuses the call, its step is taken of the record in its place, and the record that the step leaves is put back
-// there. It does what `called` says of any call c that has this place, or none as this, has this answer to whether the bus carries its telegram, and takes this
-// step.
+// What the five calls share: where nothing refuses the call, its step is taken of the record in its place, and the
+// record that the step leaves is put back there. It does what `called` says of any call c that has this place, or none
+// as this, has this answer to whether the bus carries its telegram, and takes this step.
 fn call<F: FnOnce(Record, &mut [u8]) -> Step>(
     table: &mut [Record],
     head: Head,
@@ -89,7 +90,8 @@ pub fn send(
     })
 }
 
-// Takes a telegram for the connection that its route names. Random number, idle time and net data are for a possible confirm.
+// Takes a telegram for the connection that its route names. Random number, idle time and net data are for a possible
+// confirm.
 pub fn received(
     table: &mut [Record],
     head: Head,

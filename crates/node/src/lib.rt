@@ -1,5 +1,5 @@
-// One node of the bus: the five calls over a lent table of connections. A record is found by what the telegram was sent under, never by its place, and a call
-// changes one record or none.
+// One node of the bus: the five calls over a lent table of connections. A record is found by what the telegram was sent
+// under, never by its place, and a call changes one record or none.
 #![tactic(auto)]
 
 mod accepted;

@@ -51,8 +51,8 @@ fn data_part(event: Event) -> Part
     Part { start, count }
 }
 
-// The net data of a data event, as that part of the telegram that was received. Nothing of an event that is no data, and of a telegram that is too short
-// for the event.
+// The net data of a data event, as that part of the telegram that was received. Nothing of an event that is no data,
+// and of a telegram that is too short for the event.
 pub fn net_data(telegram: &[u8], event: Event) -> &[u8]
     ensures { result.now ≡ data_of event telegram.now }
 {

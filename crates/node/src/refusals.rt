@@ -1,4 +1,5 @@
-// The refusals before the record is looked at, in their order: table, buffer, time, the telegram's length, the record's place. The record's own are the step's.
+// The refusals before the record is looked at, in their order: table, buffer, time, the telegram's length, the record's
+// place. The record's own are the step's.
 ghost use Rattle.std.specs.Prelude.{◌≡◌, ◌<◌, length, Some, IfOk, IfErr, unwrap_or};
 ghost use Rattle.telegram.specs.Refusals.{refusal_number};
 ghost use Rattle.node.specs.Refusals.{before};
@@ -8,8 +9,8 @@ use crate::accepted::table_accepted;
 use link::Record;
 use telegram::Refusal;
 
-// The place of the record that a call is for, or the first refusal that holds before the record is looked at: 1, 4, 7, 6, 2. It is part of each call's code, so
-// that the `Result` needs no memory: 16 to 32 bytes of stack less.
+// The place of the record that a call is for, or the first refusal that holds before the record is looked at: 1, 4, 7,
+// 6, 2. It is part of each call's code, so that the `Result` needs no memory: 16 to 32 bytes of stack less.
 #[tactic(auto, using(ground::specs::Choice::tests), unfolding(crate::specs::Refusals::before))]
 #[inline(always)]
 pub(crate) fn admitted(

@@ -1,4 +1,5 @@
-// The five calls and both constructors for C, on plain numbers. include/ujamniq.h declares them, for the people who call them.
+// The five calls and both constructors for C, on plain numbers. include/ujamniq.h declares them, for the people who
+// call them.
 #![tactic(auto)]
 
 ghost use Rattle.std.specs.Prelude.{◌≡◌};
