@@ -1,31 +1,17 @@
 -- The sum of the distances, its sixteenth and the number it moves to, over plain variables: first as numbers, then as the machine has them in a signed local, as
 -- bits that are read back.
 -- Assumes nothing.
-use Rattle.std.proofs.Common.{◌≡◌, ℕ, zero, suc, ◌+◌, ◌-◌, ◌*◌, ◌%◌, ◌^◌, ◌<◌, ◌≤◌, Bool, true, false, ltb, List, [], ◌∷◌, ◌++◌, length, get_or, take, drop, ℤ, pos, negsuc, ◌+ℤ◌, sym, refl, ap, ◌∙◌, add-one, arith, length-take, take_all, drop-cons, take-suc, w64, SFits, to_z, of_z, ltb-false, ltb-true}
+use Rattle.std.proofs.Common.{◌≡◌, ℕ, suc, ◌+◌, ◌-◌, ◌*◌, ◌%◌, ◌^◌, ◌<◌, ◌≤◌, Bool, true, false, ltb, List, [], ◌∷◌, ◌++◌, length, get_or, take, ℤ, pos, negsuc, ◌+ℤ◌, sym, refl, ap, ◌∙◌, add-one, arith, length-take, take-suc, w64, SFits, to_z, of_z, ltb-false, ltb-true}
 use lib.Bits.{bit_and, and_mask}
 use lib.IntN.{sub_ℕ, +ℤ_assoc, +ℤ_idr, +ℤ_idl}
 use lib.Signed.{mag, shr_z, mag_shr}
 use mir.ValLaws.{sfits_le}
 use Rattle.clock.specs.Circle.{distance_of}
-use Rattle.clock.specs.Factor.{fronted, difference_of, spread_of, floor16, around, mean_of, newest_of, no_pair}
+use Rattle.clock.specs.Factor.{difference_of, spread_of, floor16, around, mean_of, newest_of, no_pair}
 use Rattle.clock.specs.declared.Pair.{Pair}
 use Rattle.clock.proofs.Circling.{distance_small}
-use Rattle.clock.proofs.Whole.{sub_below, sub_above, mag_add, held, of_nat}
-
--- ---- the new pair at the front
-
--- n elements from place k on, each by its place, are a part of the list
-abbrev spelled : {A : Type 0} → ℕ → ℕ → List A → A → List A
-spelled k zero xs d = []
-spelled k (suc n) xs d = get_or xs k d ∷ spelled (suc k) n xs d
-
-spelled_is : {A : Type 0} (k n : ℕ) (xs : List A) (d : A) → k + n ≤ length xs → spelled k n xs d ≡ take n (drop k xs)
-spelled_is k zero xs d h = refl
-spelled_is k (suc n) xs d h = ap (λ (r : List _). get_or xs k d ∷ r) (spelled_is (suc k) n xs d (omega arith)) ∙ ap (take (suc n)) (sym (drop-cons xs k d (omega arith)))
-
-pub fronted_is : {A : Type 0} (x : A) (xs : List A) (d : A) → length xs ≡ 16 → x ∷ spelled 0 15 xs d ≡ fronted x xs
-unfolding fronted
-fronted_is x xs d h = ap (λ (r : List _). x ∷ r) (spelled_is 0 15 xs d (omega arith))
+use Rattle.clock.proofs.Whole.{sub_below, sub_above, mag_add}
+use Rattle.std.proofs.lemmas.Int.{to_z-of_z, to_z_pos}
 
 -- ---- the sum
 
@@ -59,17 +45,13 @@ taken_fits base ps i h = spread_fits base (take i ps) (simp length-take (omega a
 module _ (base : ℕ) (ps : List Pair) (i s d : ℕ) (e : ℤ) (long : length ps ≡ 16) (l : i < 16) (so_far : s ≡ of_z w64 (spread_of base (take i ps)))
     (here : d ≡ difference_of (get_or ps i no_pair)) (away : e ≡ distance_of d base) where
   sum_back : to_z w64 s ≡ spread_of base (take i ps)
-  sum_back = rw so_far (held (spread_of base (take i ps)) (taken_fits base ps i long))
+  sum_back = rw so_far (to_z-of_z w64 (spread_of base (take i ps)) (taken_fits base ps i long))
 
   away_back : to_z w64 (of_z w64 e) ≡ distance_of (difference_of (get_or ps i no_pair)) base
-  away_back = rw (away, here) (held (distance_of (difference_of (get_or ps i no_pair)) base) (record { sfits = omega (arith, distance_small (difference_of (get_or ps i no_pair)) base) }))
+  away_back = rw (away, here) (to_z-of_z w64 (distance_of (difference_of (get_or ps i no_pair)) base) (record { sfits = omega (arith, distance_small (difference_of (get_or ps i no_pair)) base) }))
 
   pub turned : to_z w64 s +ℤ to_z w64 (of_z w64 e) ≡ spread_of base (take (i + 1) ps)
   turned = rw (sum_back, away_back) (sym (spread_next base ps i (omega arith)))
-
--- after the last turn
-pub ended : (base : ℕ) (ps : List Pair) (i s : ℕ) → length ps ≡ 16 → 16 ≤ i → s ≡ of_z w64 (spread_of base (take i ps)) → to_z w64 s ≡ spread_of base ps
-ended base ps i s long h e = rw (e, take_all i ps (omega arith)) (held (spread_of base ps) (spread_fits base ps (omega arith)))
 
 -- ---- a sixteenth: the shift rounds down
 
@@ -79,7 +61,7 @@ shr_is (pos n) = refl
 shr_is (negsuc n) = refl
 
 pub floor_is : (s : ℤ) → SFits w64 s → to_z w64 (of_z w64 (shr_z (to_z w64 (of_z w64 s)) 16)) ≡ floor16 s
-floor_is s f = rw (held s f) (held (shr_z s 16) (sfits_le (mag_shr s 16) f) ∙ shr_is s)
+floor_is s f = rw (to_z-of_z w64 s f) (to_z-of_z w64 (shr_z s 16) (sfits_le (mag_shr s 16) f) ∙ shr_is s)
 
 floor_mag : (s : ℤ) → mag (floor16 s) ≤ mag s
 unfolding floor16
@@ -99,7 +81,7 @@ around_small (pos n) = omega arith
 around_small (negsuc n) = omega arith
 
 pub low_is : (m : ℤ) → SFits w64 m → to_z w64 (bit_and (of_z w64 m) 4294967295) ≡ pos (around m)
-low_is m f = rw (and_mask (of_z w64 m) 32 ∙ low_bits m f) (of_nat (around m) (omega (arith, around_small m)))
+low_is m f = rw (and_mask (of_z w64 m) 32 ∙ low_bits m f) (to_z_pos w64 (around m) (omega (arith, around_small m)))
 
 -- a number added on the circle
 around_less : (b n : ℕ) (t : Bool) → ltb b (suc n) ≡ t → (b + (2 ^ 32 - 1 - n % 2 ^ 32)) % 2 ^ 32 ≡ around (sub_ℕ b (suc n))
@@ -119,11 +101,11 @@ module _ (ps : List Pair) (base r : ℕ) (s m : ℤ) (long : length ps ≡ 16) (
   s_fits = rw sum (spread_fits base ps (omega arith))
 
   m_is : m ≡ floor16 s
-  m_is = rw (held s s_fits) at sixteenth
+  m_is = rw (to_z-of_z w64 s s_fits) at sixteenth
 
   m_fits : SFits w64 m
   m_fits = rw m_is (sfits_le (floor_mag s) s_fits)
 
   pub mean_is : r ≡ mean_of ps
   unfolding mean_of
-  mean_is = at_last ∙ rw (held m m_fits, m_is, sum, first)
+  mean_is = at_last ∙ rw (to_z-of_z w64 m m_fits, m_is, sum, first)

@@ -1,6 +1,6 @@
 -- Signed distances on the circle, over plain variables: which side of 2^31 a difference lies on, and how large a distance can be.
 -- Assumes nothing.
-use Rattle.std.proofs.Common.{◌≡◌, ℕ, suc, ◌-◌, ◌^◌, ◌<◌, ◌≤◌, Bool, true, false, ltb, ℤ, pos, negsuc, ◌-ℤ◌, refl, arith, w64, SFits, ltb-false, ltb-true, le-ltb, lt-ltb}
+use Rattle.std.proofs.Common.{◌≡◌, ℕ, suc, ◌-◌, ◌^◌, ◌<◌, ◌≤◌, Bool, true, false, ltb, ℤ, pos, negsuc, ◌-ℤ◌, refl, arith, ltb-false, ltb-true, le-ltb, lt-ltb}
 use lib.Signed.{mag}
 use Rattle.ground.specs.Choice.{pick, yes, no}
 use Rattle.clock.specs.Circle.{minus, signed_of, distance_of}
@@ -28,6 +28,3 @@ signed_small n false e l = let h = ltb-false n (2 ^ 31) e in rw (far_mag n h l) 
 pub distance_small : (a b : ℕ) → mag (distance_of a b) < 2 ^ 31
 unfolding distance_of signed_of
 distance_small a b = signed_small (minus a b) (ltb (minus a b) (2 ^ 31)) refl (minus_small a b)
-
-pub distance_fits : (a b : ℕ) (z : ℤ) → z ≡ distance_of a b → SFits w64 z
-distance_fits a b z e = rw e (record { sfits = omega (arith, distance_small a b) })

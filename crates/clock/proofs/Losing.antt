@@ -3,9 +3,14 @@
 use Rattle.std.proofs.Common.{◌≡◌, ℕ, ◌+◌, ◌<◌, ◌≤◌, Bool, true, false, eqb, ltb, leb, List, [], ◌∷◌, sym, refl, ap, ◌∙◌, subst, arith, ltb-false, ltb-true, le-ltb, lt-ltb, ne_eqb, eqb-true, le-leb}
 use borrow.Author.Tests.{lt-leb}
 use Rattle.ground.specs.Choice.{pick}
-use Rattle.clock.specs.Circle.{later_than, apart_by}
+use Rattle.clock.specs.Circle.{apart_by}
 use Rattle.clock.specs.Factor.{difference_of, newest_of, mean_of}
-use Rattle.clock.specs.Tests.{is_above, is_following, elapsed, failing, standing_tests, later_tests, near_tests, period_tests, period_over}
+use Rattle.std.specs.Prelude.{Ok, Err}
+use Rattle.clock.specs.Events.{number_of}
+use Rattle.clock.specs.declared.events.FailedTest.{FailedTest}
+use Rattle.clock.specs.declared.events.FailedTest.TheVariants as failed
+use Rattle.clock.specs.declared.events.Event.TheVariants.{Kept, Paired, NowSynchronised, Dropped, StaysIsolated, Failed}
+use Rattle.clock.specs.Tests.{is_above, is_following, elapsed, Tested, all_passed, failing, by_tests, standing_tests, later_tests, near_tests, period_tests, period_over}
 use Rattle.clock.specs.Clocks.{new_clock, kept_by, begun_anew, forgotten, isolated_by, counted_of, paired_by, synchronised_at, resynchronised_at, in_period, synchronised, isolated}
 use Rattle.clock.specs.Updates.{saying, pair_by, first_failing, joined_by, anew_by, lost_by, tests_of_pair, tests_of_period, resynchronise_tests, pair_taken, gone_on, synchronise, resynchronise, heard_by}
 use Rattle.clock.specs.Asking.{counts_at, factor_at, time_at}
@@ -17,13 +22,19 @@ use Rattle.clock.specs.declared.RefTime.{RefTime}
 use Rattle.clock.specs.declared.Message.{Message}
 use Rattle.clock.specs.declared.Clock.{Clock}
 use Rattle.clock.specs.declared.Step.{Step}
-use Rattle.clock.proofs.Cases.{before_none, all_held, failing_join, pair_numbered, drift_held, drift_failed}
+use Rattle.clock.proofs.Cases.{before_none, failing_join, drift_held, drift_failed}
 
 -- a property of both sides of a choice is a property of the choice
 pub either : {A : Type 0} (P : A → Type 0) (b : Bool) (x y : A) → P x → P y → P (pick b x y)
 unfolding pick
 either P true x y p q = p
 either P false x y p q = q
+
+-- and a property of what follows tests, whatever they say
+pub either_tested : {A : Type 0} (P : A → Type 0) (r : Tested) (x : A) (f : FailedTest → A) → P x → ((test : FailedTest) → P (f test)) → P (by_tests r x f)
+unfolding by_tests
+either_tested P (Ok all) x f p q = p
+either_tested P (Err test) x f p q = q test
 
 -- ---- pairs are made in sequence alone
 
@@ -39,16 +50,15 @@ module _ (c : Clock) (n : ℕ) (t : LocalTime) (out : is_following c.last n ≡ 
   abbrev unpaired : RefTime → ℕ → Step
   unpaired r factor =
       pick (is_above c.last n)
-      (pick (eqb (failing (tests_of_period c t factor)) 0) (saying 0 (kept_by (in_period c (period_over c.period t) factor) (told r) t)) (lost_by c (failing (tests_of_period c t factor))))
-      (saying 4 c)
+      (by_tests (failing (tests_of_period c t factor)) (saying Kept (kept_by (in_period c (period_over c.period t) factor) (told r) t)) (lost_by c))
+      (saying Dropped c)
 
   abbrev left : RefTime → Step
   left r =
-      pick (eqb c.state 1) (pick (is_above c.last n) (saying 0 (kept_by c (told r) t)) (saying 101 (forgotten c)))
+      pick (eqb c.state 1) (pick (is_above c.last n) (saying Kept (kept_by c (told r) t)) (saying (Failed failed.NotAbove) (forgotten c)))
       (pick (eqb c.state 2)
-      (pick (eqb (failing (standing_tests c.count c.resynchronised t)) 0) (unpaired r (mean_of c.pairs))
-      (lost_by c (failing (standing_tests c.count c.resynchronised t))))
-      (saying 5 c))
+      (by_tests (failing (standing_tests c.count c.resynchronised t)) (unpaired r (mean_of c.pairs)) (lost_by c))
+      (saying StaysIsolated c))
 
   heard_out : (r : RefTime) → heard_by c (told r) t ≡ left r
   unfolding heard_by synchronise resynchronise gone_on pair_taken pick
@@ -63,9 +73,9 @@ module _ (c : Clock) (n : ℕ) (t : LocalTime) (out : is_following c.last n ≡ 
   left_pairs r =
       either (λ (h : Step). h.clock.pairs ≡ c.pairs) (eqb c.state 1) _ _ (either (λ (h : Step). h.clock.pairs ≡ c.pairs) (is_above c.last n) _ _ refl refl)
       (either (λ (h : Step). h.clock.pairs ≡ c.pairs) (eqb c.state 2) _ _
-      (either (λ (h : Step). h.clock.pairs ≡ c.pairs) (eqb (failing (standing_tests c.count c.resynchronised t)) 0) _ _
+      (either_tested (λ (h : Step). h.clock.pairs ≡ c.pairs) (failing (standing_tests c.count c.resynchronised t)) _ _
       (either (λ (h : Step). h.clock.pairs ≡ c.pairs) (is_above c.last n) _ _
-      (either (λ (h : Step). h.clock.pairs ≡ c.pairs) (eqb (failing (tests_of_period c t (mean_of c.pairs))) 0) _ _ refl refl) refl) refl) refl)
+      (either_tested (λ (h : Step). h.clock.pairs ≡ c.pairs) (failing (tests_of_period c t (mean_of c.pairs))) _ _ refl (λ test. refl)) refl) (λ test. refl)) refl)
 
 pub only_in_sequence : OnlyInSequence
 only_in_sequence c n r s t out =
@@ -75,15 +85,15 @@ only_in_sequence c n r s t out =
 
 -- a clock that is lost, or an event below 101
 abbrev Lost : Step → Type 0
-Lost h = 101 ≤ h.event → (h.clock.state ≡ isolated) × (h.clock.count ≡ 0)
+Lost h = 101 ≤ number_of h.event → (h.clock.state ≡ isolated) × (h.clock.count ≡ 0)
 
-lost_is : (c : Clock) (n : ℕ) → Lost (lost_by c n)
+lost_is : (c : Clock) (test : FailedTest) → Lost (lost_by c test)
 unfolding lost_by isolated_by
-lost_is c n h = (refl, refl)
+lost_is c test h = (refl, refl)
 
-taken_small : (c : Clock) (m : Message) (t : LocalTime) → (pair_taken c m t).event ≤ 3
+taken_small : (c : Clock) (m : Message) (t : LocalTime) → number_of (pair_taken c m t).event ≤ 3
 unfolding pair_taken
-taken_small c m t = either (λ (h : Step). h.event ≤ 3) (is_following c.last m.number) _ _ (omega arith) (omega arith)
+taken_small c m t = either (λ (h : Step). number_of h.event ≤ 3) (is_following c.last m.number) _ _ (omega arith) (omega arith)
 
 gone_on_is : (c : Clock) (m : Message) (t : LocalTime) (f : ℕ) → Lost (gone_on c m t f)
 unfolding gone_on
@@ -92,10 +102,10 @@ gone_on_is c m t f h = absurd (omega (arith, taken_small c m t))
 resynchronise_lost : (c : Clock) (m : Message) (t : LocalTime) → Lost (resynchronise c m t)
 unfolding resynchronise
 resynchronise_lost c m t =
-    either Lost (eqb (failing (standing_tests c.count c.resynchronised t)) 0) _ _
+    either_tested Lost (failing (standing_tests c.count c.resynchronised t)) _ _
     (either Lost (is_above c.last m.number) _ _
-    (either Lost (eqb (failing (resynchronise_tests c m t)) 0) _ _ (gone_on_is c m t (mean_of c.pairs)) (lost_is c (failing (resynchronise_tests c m t)))) (λ h. absurd (omega arith)))
-    (lost_is c (failing (standing_tests c.count c.resynchronised t)))
+    (either_tested Lost (failing (resynchronise_tests c m t)) _ _ (gone_on_is c m t (mean_of c.pairs)) (lost_is c)) (λ h. absurd (omega arith)))
+    (lost_is c)
 
 by_state : (c : Clock) (m : Message) (t : LocalTime) → c.state ≡ synchronised → heard_by c m t ≡ resynchronise c m t
 unfolding heard_by pick
@@ -107,7 +117,7 @@ lost_isolates c m t e h = subst Lost (sym (by_state c m t e)) (resynchronise_los
 -- ---- the limits
 
 pub synchronised_timer : SynchronisedTimer
-unfolding resynchronise pick
+unfolding resynchronise by_tests pick
 synchronised_timer c m t e enough = (
   λ h. rw (le-leb 16 c.count enough, le-leb (elapsed c.resynchronised t) 3000 h),
   λ h. by_state c m t e ∙ rw (le-leb 16 c.count enough, lt-leb (elapsed c.resynchronised t) 3000 (omega arith)),
@@ -115,72 +125,68 @@ synchronised_timer c m t e enough = (
 
 -- a message that is judged: what the tests answer decides
 module _ (c : Clock) (m : Message) (t : LocalTime) (j : Judged c m t) where
-  judged_is : heard_by c m t ≡ pick (eqb (failing (resynchronise_tests c m t)) 0) (gone_on c m t (mean_of c.pairs)) (lost_by c (failing (resynchronise_tests c m t)))
-  unfolding resynchronise pick
+  judged_is : heard_by c m t ≡ by_tests (failing (resynchronise_tests c m t)) (gone_on c m t (mean_of c.pairs)) (lost_by c)
+  unfolding resynchronise by_tests pick
   judged_is = by_state c m t j.synchronised ∙ rw (j.standing, j.above)
 
-  judged_lost : (n : ℕ) → (n ≡ 0 → ⊥) → failing (resynchronise_tests c m t) ≡ n → heard_by c m t ≡ lost_by c n
-  unfolding pick
-  judged_lost n z e = judged_is ∙ rw (e, ne_eqb n 0 z)
+  judged_lost : (test : FailedTest) → failing (resynchronise_tests c m t) ≡ Err test → heard_by c m t ≡ lost_by c test
+  unfolding by_tests
+  judged_lost test e = judged_is ∙ rw e
 
-  judged_on : failing (resynchronise_tests c m t) ≡ 0 → heard_by c m t ≡ gone_on c m t (mean_of c.pairs)
-  unfolding pick
+  judged_on : failing (resynchronise_tests c m t) ≡ all_passed → heard_by c m t ≡ gone_on c m t (mean_of c.pairs)
+  unfolding by_tests
   judged_on e = judged_is ∙ rw e
 
   -- where both times are later, the short-term test decides on the pair
-  pair_near : is_following c.last m.number ≡ true → failing (later_tests (pair_by c m) (newest_of c.pairs)) ≡ 0
+  pair_near : is_following c.last m.number ≡ true → failing (later_tests (pair_by c m) (newest_of c.pairs)) ≡ all_passed
       → failing (tests_of_pair c m (mean_of c.pairs)) ≡ failing (near_tests (pair_by c m) (mean_of c.pairs))
-  unfolding pick
+  unfolding by_tests pick
   pair_near f l =
-      rw f
-      (sym (all_held (later_than (pair_by c m).reference.0 (newest_of c.pairs).reference.0) (later_than (pair_by c m).local.0 (newest_of c.pairs).local.0)
-      (failing (near_tests (pair_by c m) (mean_of c.pairs))) l))
+      rw f (failing_join (later_tests (pair_by c m) (newest_of c.pairs)) (near_tests (pair_by c m) (mean_of c.pairs)) ∙ rw l)
 
-  tests_joined : failing (resynchronise_tests c m t) ≡ pick (eqb (failing (tests_of_pair c m (mean_of c.pairs))) 0) (failing (tests_of_period c t (mean_of c.pairs))) (failing (tests_of_pair c m (mean_of c.pairs)))
-  tests_joined =
-      failing_join (tests_of_pair c m (mean_of c.pairs)) (tests_of_period c t (mean_of c.pairs))
-      (pair_numbered (is_following c.last m.number) (pair_by c m) (newest_of c.pairs) (mean_of c.pairs))
+  tests_joined : failing (resynchronise_tests c m t) ≡ by_tests (failing (tests_of_pair c m (mean_of c.pairs))) (failing (tests_of_period c t (mean_of c.pairs))) Err
+  tests_joined = failing_join (tests_of_pair c m (mean_of c.pairs)) (tests_of_period c t (mean_of c.pairs))
 
-  pair_first : (n : ℕ) → (n ≡ 0 → ⊥) → failing (tests_of_pair c m (mean_of c.pairs)) ≡ n → failing (resynchronise_tests c m t) ≡ n
-  unfolding pick
-  pair_first n z e = tests_joined ∙ rw (e, ne_eqb n 0 z)
+  pair_first : (test : FailedTest) → failing (tests_of_pair c m (mean_of c.pairs)) ≡ Err test → failing (resynchronise_tests c m t) ≡ Err test
+  unfolding by_tests
+  pair_first test e = tests_joined ∙ rw e
 
-  period_next : failing (tests_of_pair c m (mean_of c.pairs)) ≡ 0 → period_over c.period t ≡ true → failing (resynchronise_tests c m t) ≡ failing (period_tests c.period (mean_of c.pairs))
-  unfolding pick
+  period_next : failing (tests_of_pair c m (mean_of c.pairs)) ≡ all_passed → period_over c.period t ≡ true → failing (resynchronise_tests c m t) ≡ failing (period_tests c.period (mean_of c.pairs))
+  unfolding by_tests pick
   period_next e o = tests_joined ∙ rw (e, o)
 
-near_held : (p : Pair) (f : ℕ) → apart_by (difference_of p) f ≤ 99 → failing (near_tests p f) ≡ 0
+near_held : (p : Pair) (f : ℕ) → apart_by (difference_of p) f ≤ 99 → failing (near_tests p f) ≡ all_passed
 unfolding pick
 near_held p f h = rw (lt-ltb (apart_by (difference_of p) f) 100 (omega arith))
 
-near_failed : (p : Pair) (f : ℕ) → 100 ≤ apart_by (difference_of p) f → failing (near_tests p f) ≡ 106
+near_failed : (p : Pair) (f : ℕ) → 100 ≤ apart_by (difference_of p) f → failing (near_tests p f) ≡ Err failed.ShortTerm
 unfolding pick
 near_failed p f h = rw (le-ltb (apart_by (difference_of p) f) 100 h)
 
 pub short_term : ShortTerm
 short_term c m t j f l = (
   λ h. pair_near c m t j f l ∙ near_held (pair_by c m) (mean_of c.pairs) h,
-  λ h. judged_lost c m t j 106 (λ e. omega arith) (pair_first c m t j 106 (λ e. omega arith) (pair_near c m t j f l ∙ near_failed (pair_by c m) (mean_of c.pairs) h)),
+  λ h. judged_lost c m t j failed.ShortTerm (pair_first c m t j failed.ShortTerm (pair_near c m t j f l ∙ near_failed (pair_by c m) (mean_of c.pairs) h)),
 )
 
-drift_good : (p : Period) (f : ℕ) → 18 ≤ p.messages → apart_by f p.factor ≤ 30 → failing (period_tests p f) ≡ 0
+drift_good : (p : Period) (f : ℕ) → 18 ≤ p.messages → apart_by f p.factor ≤ 30 → failing (period_tests p f) ≡ all_passed
 unfolding pick
 drift_good p f n h = rw (le-leb 18 p.messages n, drift_held (apart_by f p.factor) h)
 
-drift_bad : (p : Period) (f : ℕ) → 18 ≤ p.messages → 31 ≤ apart_by f p.factor → failing (period_tests p f) ≡ 108
+drift_bad : (p : Period) (f : ℕ) → 18 ≤ p.messages → 31 ≤ apart_by f p.factor → failing (period_tests p f) ≡ Err failed.LongTerm
 unfolding pick
 drift_bad p f n h = rw (le-leb 18 p.messages n, drift_failed (apart_by f p.factor) (omega arith))
 
-messages_bad : (p : Period) (f : ℕ) → p.messages ≤ 17 → failing (period_tests p f) ≡ 107
+messages_bad : (p : Period) (f : ℕ) → p.messages ≤ 17 → failing (period_tests p f) ≡ Err failed.TooFew
 unfolding pick
 messages_bad p f h = rw (lt-leb 18 p.messages (omega arith))
 
 pub period_judged : PeriodJudged
 period_judged c m t j e o = (
-  λ h. judged_lost c m t j 107 (λ z. omega arith) (period_next c m t j e o ∙ messages_bad c.period (mean_of c.pairs) h),
+  λ h. judged_lost c m t j failed.TooFew (period_next c m t j e o ∙ messages_bad c.period (mean_of c.pairs) h),
   λ n. (
     λ h. judged_on c m t j (period_next c m t j e o ∙ drift_good c.period (mean_of c.pairs) n h),
-    λ h. judged_lost c m t j 108 (λ z. omega arith) (period_next c m t j e o ∙ drift_bad c.period (mean_of c.pairs) n h),
+    λ h. judged_lost c m t j failed.LongTerm (period_next c m t j e o ∙ drift_bad c.period (mean_of c.pairs) n h),
   ),
 )
 
@@ -240,7 +246,7 @@ module _ (c : Clock) (m : Message) (t : LocalTime) (e : c.state ≡ 1) where
   other f = omega arith
 
   joined_full : (b : Bool) → ltb (kept_by (paired_by c (pair_by c m)) m t).count 16 ≡ b
-      → Full (pick b (saying 1 (kept_by (paired_by c (pair_by c m)) m t)) (saying 2 (synchronised_at (kept_by (paired_by c (pair_by c m)) m t) t))).clock
+      → Full (pick b (saying Paired (kept_by (paired_by c (pair_by c m)) m t)) (saying NowSynchronised (synchronised_at (kept_by (paired_by c (pair_by c m)) m t) t))).clock
   unfolding pick kept_by paired_by synchronised_at counted_of
   joined_full true l f = absurd (other f)
   joined_full false l f = counted_full c.count (ltb c.count 16) refl (λ h. omega (arith, ltb-false (pick (ltb c.count 16) (c.count + 1) 16) 16 l))
@@ -250,14 +256,14 @@ module _ (c : Clock) (m : Message) (t : LocalTime) (e : c.state ≡ 1) where
   synchronise_full =
       either (λ (h : Step). Full h.clock) (is_above c.last m.number) _ _
       (either (λ (h : Step). Full h.clock) (is_following c.last m.number) _ _
-      (either (λ (h : Step). Full h.clock) (eqb (first_failing c (pair_by c m)) 0) _ _
-      (joined_full (ltb (kept_by (paired_by c (pair_by c m)) m t).count 16) refl) (λ f. absurd (other f))) (λ f. absurd (other f))) (λ f. absurd (other f))
+      (either_tested (λ (h : Step). Full h.clock) (first_failing c (pair_by c m)) _ _
+      (joined_full (ltb (kept_by (paired_by c (pair_by c m)) m t).count 16) refl) (λ test f. absurd (other f))) (λ f. absurd (other f))) (λ f. absurd (other f))
 
 -- and a synchronised one keeps them, or is lost
 module _ (c : Clock) (m : Message) (t : LocalTime) (full : c.count ≡ 16) where
-  lost_full : (n : ℕ) → Full (lost_by c n).clock
+  lost_full : (test : FailedTest) → Full (lost_by c test).clock
   unfolding lost_by isolated_by
-  lost_full n f = absurd (omega arith)
+  lost_full test f = absurd (omega arith)
 
   taken_full : (pair_taken c m t).clock.count ≡ 16
   unfolding pair_taken resynchronised_at paired_by counted_of pick
@@ -270,12 +276,12 @@ module _ (c : Clock) (m : Message) (t : LocalTime) (full : c.count ≡ 16) where
   resynchronise_full : Full (resynchronise c m t).clock
   unfolding resynchronise
   resynchronise_full =
-      either (λ (h : Step). Full h.clock) (eqb (failing (standing_tests c.count c.resynchronised t)) 0) _ _
+      either_tested (λ (h : Step). Full h.clock) (failing (standing_tests c.count c.resynchronised t)) _ _
       (either (λ (h : Step). Full h.clock) (is_above c.last m.number) _ _
-      (either (λ (h : Step). Full h.clock) (eqb (failing (resynchronise_tests c m t)) 0) _ _ (gone_full (mean_of c.pairs)) (lost_full (failing (resynchronise_tests c m t)))) (λ f. full))
-      (lost_full (failing (standing_tests c.count c.resynchronised t)))
+      (either_tested (λ (h : Step). Full h.clock) (failing (resynchronise_tests c m t)) _ _ (gone_full (mean_of c.pairs)) lost_full) (λ f. full))
+      lost_full
 
-heard_full : (c : Clock) (m : Message) (t : LocalTime) (u v : Bool) → eqb c.state 1 ≡ u → eqb c.state 2 ≡ v → Full c → Full (pick u (synchronise c m t) (pick v (resynchronise c m t) (saying 5 c))).clock
+heard_full : (c : Clock) (m : Message) (t : LocalTime) (u v : Bool) → eqb c.state 1 ≡ u → eqb c.state 2 ≡ v → Full c → Full (pick u (synchronise c m t) (pick v (resynchronise c m t) (saying StaysIsolated c))).clock
 unfolding pick
 heard_full c m t true v e f full = synchronise_full c m t (eqb-true c.state 1 e)
 heard_full c m t false true e f full = resynchronise_full c m t (full (eqb-true c.state 2 f))

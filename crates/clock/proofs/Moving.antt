@@ -2,26 +2,27 @@
 -- moving both clocks on.
 -- Assumes nothing.
 use Rattle.std.proofs.Common.{◌≡◌, ℕ, zero, suc, ◌+◌, ◌-◌, ◌*◌, ◌/◌, ◌^◌, ◌<◌, Bool, true, false, eqb, ltb, List, [], ◌∷◌, ◌++◌, map, length, take, ℤ, pos, ◌+ℤ◌, sym, refl, ap, ◌∙◌, arith, length-take}
+use Rattle.std.specs.Prelude.{Some, None, option_map, Ok, Err}
+use Rattle.clock.specs.declared.events.FailedTest.{FailedTest}
+use Rattle.clock.specs.declared.events.Event.TheVariants.{NowSynchronised, Resynchronised}
 use Rattle.ground.specs.Choice.{pick}
 use Rattle.clock.specs.Circle.{minus, distance_of, later_than, apart_by}
 use Rattle.clock.specs.Factor.{fronted, difference_of, spread_of, floor16, around, newest_of, mean_of}
 use Rattle.clock.specs.Facts.{Every, Timed, after, onward, later_reference, ConstantAdded, Ranged, moved_pair, moved_factor, moved_local, moved_period, moved_clock, moved_message, moved_step, WrapUnseen, moved_heard, WrapUnseenRun, moved_asked, WrapUnseenAsking}
-use Rattle.clock.specs.Tests.{is_above, is_following, elapsed, failing, standing_tests, later_tests, pair_tests, period_tests, period_over}
+use Rattle.clock.specs.Tests.{is_above, is_following, elapsed, Tested, failing, by_tests, standing_tests, later_tests, pair_tests, period_tests, period_over}
 use Rattle.clock.specs.Clocks.{kept_by, begun_anew, forgotten, isolated_by, counted_of, paired_by, synchronised_at, resynchronised_at, next_period, counting_period, period_after, in_period}
 use Rattle.clock.specs.Updates.{saying, pair_by, first_failing, joined_by, anew_by, lost_by, tests_of_pair, tests_of_period, resynchronise_tests, pair_taken, gone_on, synchronise, resynchronise, heard_by}
-use Rattle.clock.specs.Asking.{counts_at, factor_at, adjusted_by, adjusting, time_at}
+use Rattle.clock.specs.Asking.{counts_at, factor_at, adjusted_by, time_at}
 use Rattle.clock.specs.declared.LocalTime.{LocalTime}
 use Rattle.clock.specs.declared.Message.{Message}
 use Rattle.clock.specs.declared.Period.{Period}
 use Rattle.clock.specs.declared.Clock.{Clock}
 use Rattle.clock.specs.declared.Step.{Step}
-use Rattle.clock.specs.declared.FactorAsked.TheVariants as asked
-use Rattle.clock.specs.declared.TimeAsked.TheVariants as time
 use Rattle.clock.specs.declared.Pair.{Pair}
 use Rattle.clock.proofs.Circling.{minus_small}
 use Rattle.clock.proofs.Averages.{around_add, around_small}
-use Rattle.clock.proofs.Cases.{asked_or_none, failing_join, pair_numbered}
-use Rattle.clock.proofs.Losing.{either}
+use Rattle.clock.proofs.Cases.{asked_or_none, failing_join}
+use Rattle.clock.proofs.Losing.{either, either_tested}
 
 -- ---- on the circle
 
@@ -151,6 +152,13 @@ unfolding pick
 under f true x y x' y' p q = p
 under f false x y x' y' p q = q
 
+-- and what follows tests
+under_tested : {A B : Type 0} (f : A → B) (r : Tested) (x : A) (g : FailedTest → A) (x' : B) (g' : FailedTest → B) → x' ≡ f x → ((test : FailedTest) → g' test ≡ f (g test))
+    → by_tests r x' g' ≡ f (by_tests r x g)
+unfolding by_tests
+under_tested f (Ok all) x g x' g' p q = p
+under_tested f (Err test) x g x' g' p q = q test
+
 twice_onward : (k b : ℕ) → onward 30000 (onward k b) ≡ onward k (onward 30000 b)
 twice_onward k b = omega arith
 
@@ -196,17 +204,17 @@ module _ (j k : ℕ) (lk : k < 2 ^ 32) where
   unfolding kept_by
   kept_moved c m t = refl
 
-  anew_moved : (c : Clock) (m : Message) (t : LocalTime) (n : ℕ) → anew_by (on c) (moved_message j m) (moved_local k t) n ≡ onStep (anew_by c m t n)
+  anew_moved : (c : Clock) (m : Message) (t : LocalTime) (test : FailedTest) → anew_by (on c) (moved_message j m) (moved_local k t) test ≡ onStep (anew_by c m t test)
   unfolding anew_by kept_by begun_anew
-  anew_moved c m t n = refl
+  anew_moved c m t test = refl
 
   forgotten_moved : (c : Clock) → forgotten (on c) ≡ on (forgotten c)
   unfolding forgotten
   forgotten_moved c = refl
 
-  lost_moved : (c : Clock) (n : ℕ) → lost_by (on c) n ≡ onStep (lost_by c n)
+  lost_moved : (c : Clock) (test : FailedTest) → lost_by (on c) test ≡ onStep (lost_by c test)
   unfolding lost_by isolated_by
-  lost_moved c n = refl
+  lost_moved c test = refl
 
   pair_by_moved : (c : Clock) (m : Message) → pair_by (on c) (moved_message j m) ≡ moved_pair j k (pair_by c m)
   unfolding pair_by
@@ -297,7 +305,7 @@ module _ (j k : ℕ) (lk : k < 2 ^ 32) (c : Clock) (m : Message) (t : LocalTime)
   joined_is =
       rw (paired_moved j k lk c new, kept_moved j k lk (paired_by c new) m t)
       (under moving (ltb (kept_by (paired_by c new) m t).count 16) _ _ _ _ refl
-      (ap (saying 2) (synchronised_moved j k lk (kept_by (paired_by c new) m t) t kept_long kept_in)))
+      (ap (saying NowSynchronised) (synchronised_moved j k lk (kept_by (paired_by c new) m t) t kept_long kept_in)))
 
   above_is : is_above c'.last m.number ≡ is_above c.last m.number
   unfolding is_above
@@ -313,7 +321,7 @@ module _ (j k : ℕ) (lk : k < 2 ^ 32) (c : Clock) (m : Message) (t : LocalTime)
       rw (above_is, following_is, pair_by_moved j k lk c m, first_is, forgotten_moved j k lk c, kept_moved j k lk c m t)
       (under moving (is_above c.last m.number) _ _ _ _
       (under moving (is_following c.last m.number) _ _ _ _
-      (under moving (eqb (first_failing c new) 0) _ _ _ _ joined_is (anew_moved j k lk c m t (first_failing c new))) refl) refl)
+      (under_tested moving (first_failing c new) _ _ _ _ joined_is (anew_moved j k lk c m t)) refl) refl)
 
   pair_tests_is : failing (tests_of_pair c' m' (moved_factor j k factor)) ≡ failing (tests_of_pair c m factor)
   pair_tests_is =
@@ -330,9 +338,8 @@ module _ (j k : ℕ) (lk : k < 2 ^ 32) (c : Clock) (m : Message) (t : LocalTime)
   failing_is : failing (tests_of_pair c' m' (moved_factor j k factor) ++ tests_of_period c' t' (moved_factor j k factor)) ≡ failing (resynchronise_tests c m t)
   failing_is =
       failing_join (tests_of_pair c' m' (moved_factor j k factor)) (tests_of_period c' t' (moved_factor j k factor))
-      (pair_numbered (is_following c'.last m.number) (pair_by c' m') (newest_of c'.pairs) (moved_factor j k factor))
       ∙ rw (pair_tests_is, period_tests_is)
-      (sym (failing_join (tests_of_pair c m factor) (tests_of_period c t factor) (pair_numbered (is_following c.last m.number) new (newest_of c.pairs) factor)))
+      (sym (failing_join (tests_of_pair c m factor) (tests_of_period c t factor)))
 
   resynchronised_is : resynchronised_at (paired_by c' (moved_pair j k new)) t' ≡ moved_clock j k (resynchronised_at (paired_by c new) t)
   resynchronised_is = rw (paired_moved j k lk c new) again
@@ -344,7 +351,7 @@ module _ (j k : ℕ) (lk : k < 2 ^ 32) (c : Clock) (m : Message) (t : LocalTime)
   unfolding pair_taken
   taken_is =
       rw (following_is, pair_by_moved j k lk c m)
-      (under moving (is_following c.last m.number) _ _ _ _ (ap (saying 3) resynchronised_is) refl)
+      (under moving (is_following c.last m.number) _ _ _ _ (ap (saying Resynchronised) resynchronised_is) refl)
 
   gone_on_is : gone_on c' m' t' (moved_factor j k factor) ≡ moving (gone_on c m t factor)
   unfolding gone_on
@@ -356,10 +363,10 @@ module _ (j k : ℕ) (lk : k < 2 ^ 32) (c : Clock) (m : Message) (t : LocalTime)
   unfolding resynchronise
   resynchronise_is =
       rw (standing_moved j k lk c.count c.resynchronised t i.resynchronised, above_is, mean_is, failing_is)
-      (under moving (eqb (failing (standing_tests c.count c.resynchronised t)) 0) _ _ _ _
+      (under_tested moving (failing (standing_tests c.count c.resynchronised t)) _ _ _ _
       (under moving (is_above c.last m.number) _ _ _ _
-      (under moving (eqb (failing (resynchronise_tests c m t)) 0) _ _ _ _ gone_on_is (lost_moved j k lk c (failing (resynchronise_tests c m t)))) refl)
-      (lost_moved j k lk c (failing (standing_tests c.count c.resynchronised t))))
+      (under_tested moving (failing (resynchronise_tests c m t)) _ _ _ _ gone_on_is (lost_moved j k lk c)) refl)
+      (lost_moved j k lk c))
 
   heard_is : heard_by c' m' t' ≡ moving (heard_by c m t)
   unfolding heard_by
@@ -381,13 +388,13 @@ module _ (c : Clock) (m : Message) (t : LocalTime) (i : Ranged c) (lm : m.refere
   unfolding forgotten
   forgotten_fits = record { sixteen = i.sixteen; pairs = i.pairs; last = i.last; resynchronised = i.resynchronised; begun = i.begun; factor = i.factor }
 
-  pub anew_fits : (n : ℕ) → Fits (anew_by c m t n)
+  pub anew_fits : (test : FailedTest) → Fits (anew_by c m t test)
   unfolding anew_by kept_by begun_anew
-  anew_fits n = record { sixteen = i.sixteen; pairs = i.pairs; last = lt; resynchronised = i.resynchronised; begun = i.begun; factor = i.factor }
+  anew_fits test = record { sixteen = i.sixteen; pairs = i.pairs; last = lt; resynchronised = i.resynchronised; begun = i.begun; factor = i.factor }
 
-  lost_fits : (n : ℕ) → Fits (lost_by c n)
+  lost_fits : (test : FailedTest) → Fits (lost_by c test)
   unfolding lost_by isolated_by
-  lost_fits n = record { sixteen = i.sixteen; pairs = i.pairs; last = i.last; resynchronised = i.resynchronised; begun = i.begun; factor = i.factor }
+  lost_fits test = record { sixteen = i.sixteen; pairs = i.pairs; last = i.last; resynchronised = i.resynchronised; begun = i.begun; factor = i.factor }
 
   pub paired_fits : Ranged (paired_by c (pair_by c m))
   unfolding paired_by
@@ -432,7 +439,7 @@ module _ (c : Clock) (m : Message) (t : LocalTime) (i : Ranged c) (lm : m.refere
   synchronise_fits =
       either Fits (is_above c.last m.number) _ _
       (either Fits (is_following c.last m.number) _ _
-      (either Fits (eqb (first_failing c (pair_by c m)) 0) _ _ joined_fits (anew_fits (first_failing c (pair_by c m)))) (kept_fits c i)) forgotten_fits
+      (either_tested Fits (first_failing c (pair_by c m)) _ _ joined_fits anew_fits) (kept_fits c i)) forgotten_fits
 
   taken_fits : Fits (pair_taken c m t)
   unfolding pair_taken
@@ -445,10 +452,9 @@ module _ (c : Clock) (m : Message) (t : LocalTime) (i : Ranged c) (lm : m.refere
   pub resynchronise_fits : Fits (resynchronise c m t)
   unfolding resynchronise
   resynchronise_fits =
-      either Fits (eqb (failing (standing_tests c.count c.resynchronised t)) 0) _ _
-      (either Fits (is_above c.last m.number) _ _
-      (either Fits (eqb (failing (resynchronise_tests c m t)) 0) _ _ gone_on_fits (lost_fits (failing (resynchronise_tests c m t)))) i)
-      (lost_fits (failing (standing_tests c.count c.resynchronised t)))
+      either_tested Fits (failing (standing_tests c.count c.resynchronised t)) _ _
+      (either Fits (is_above c.last m.number) _ _ (either_tested Fits (failing (resynchronise_tests c m t)) _ _ gone_on_fits lost_fits) i)
+      lost_fits
 
   pub heard_fits : Fits (heard_by c m t)
   unfolding heard_by
@@ -477,9 +483,9 @@ adjusted_moved j k t f lk =
     (onward_law k t) (onward_law j f) (minus_law (onward j f) k lk) (onward_law (moved_factor j k f) (onward k t)) (onward_law f t) (onward_law j (onward f t))
 
 time_moved : (j k : ℕ) (t : LocalTime) (b : Bool) (f f' : ℕ) → k < 2 ^ 32 → f' ≡ moved_factor j k f
-    → adjusting (moved_local k t) (pick b (asked.Known f') asked.TooFewPairs) ≡ moved_asked j (adjusting t (pick b (asked.Known f) asked.TooFewPairs))
+    → option_map (adjusted_by (moved_local k t)) (pick b (Some f') None) ≡ moved_asked j (option_map (adjusted_by t) (pick b (Some f) None))
 unfolding pick adjusted_by
-time_moved j k t true f f' lk e = rw e (ap (λ (n : ℕ). time.At (record { 0 = n })) (adjusted_moved j k t.0 f lk))
+time_moved j k t true f f' lk e = rw e (ap (λ (n : ℕ). Some (record { 0 = n })) (adjusted_moved j k t.0 f lk))
 time_moved j k t false f f' lk e = refl
 
 pub wrap_unseen_asking : WrapUnseenAsking

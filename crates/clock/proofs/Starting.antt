@@ -6,7 +6,11 @@ use lib.ListN.{length-map}
 use borrow.Author.Tests.{eqb-false}
 use Rattle.ground.specs.Choice.{pick}
 use Rattle.clock.specs.Factor.{fronted, newest_of, no_pair, mean_of}
-use Rattle.clock.specs.Tests.{is_above, is_following, failing, standing_tests}
+use Rattle.std.specs.Prelude.{Ok, Err}
+use Rattle.clock.specs.declared.events.FailedTest.{FailedTest}
+use Rattle.clock.specs.declared.events.FailedTest.TheVariants.{NotAbove}
+use Rattle.clock.specs.declared.events.Event.TheVariants.{Kept, NowSynchronised, StaysIsolated, Failed}
+use Rattle.clock.specs.Tests.{is_above, is_following, Tested, failing, by_tests, standing_tests}
 use Rattle.clock.specs.Clocks.{new_clock, kept_by, begun_anew, forgotten, isolated_by, counted_of, paired_by, synchronised_at, resynchronised_at, in_period}
 use Rattle.clock.specs.Updates.{saying, pair_by, first_failing, joined_by, anew_by, lost_by, resynchronise_tests, pair_taken, gone_on, synchronise, resynchronise, heard_by}
 use Rattle.clock.specs.Asking.{time_at}
@@ -18,7 +22,7 @@ use Rattle.clock.specs.declared.Last.{Last}
 use Rattle.clock.specs.declared.Clock.{Clock}
 use Rattle.clock.specs.declared.Step.{Step}
 use Rattle.clock.proofs.Circling.{minus_small}
-use Rattle.clock.proofs.Losing.{either, not_before, new_unsynchronised}
+use Rattle.clock.proofs.Losing.{either, either_tested, not_before, new_unsynchronised}
 use Rattle.clock.proofs.Moving.{onward_below, kept_fits, anew_fits, forgotten_fits, paired_fits, synchronised_fits, resynchronise_fits, heard_fits, wrap_unseen_run, wrap_unseen_asking}
 
 -- ---- lists that begin alike
@@ -67,8 +71,14 @@ unfolding pick
 by_test true x y x' y' p q = p refl
 by_test false x y x' y' p q = q refl
 
-by_tests : (b b' : Bool) (x y x' y' : Step) → b ≡ b' → (b ≡ true → Both x x') → (b ≡ false → Both y y') → Both (pick b x y) (pick b' x' y')
-by_tests b b' x y x' y' e p q = subst (λ (z : Bool). Both (pick b x y) (pick z x' y')) e (by_test b x y x' y' p q)
+by_same_test : (b b' : Bool) (x y x' y' : Step) → b ≡ b' → (b ≡ true → Both x x') → (b ≡ false → Both y y') → Both (pick b x y) (pick b' x' y')
+by_same_test b b' x y x' y' e p q = subst (λ (z : Bool). Both (pick b x y) (pick z x' y')) e (by_test b x y x' y' p q)
+
+by_tested : (r : Tested) (x : Step) (f : FailedTest → Step) (x' : Step) (f' : FailedTest → Step) → Both x x' → ((test : FailedTest) → Both (f test) (f' test))
+    → Both (by_tests r x f) (by_tests r x' f')
+unfolding by_tests
+by_tested (Ok all) x f x' f' p q = p
+by_tested (Err test) x f x' f' p q = q test
 
 few_by : (n : ℕ) (b : Bool) → ltb n 16 ≡ b → pick b (n + 1) 16 ≤ 16
 unfolding pick
@@ -97,9 +107,9 @@ module _ (c : Clock) (m : Message) (t : LocalTime) (few : c.count ≤ 16) where
   unfolding pair_taken resynchronised_at paired_by
   taken_few = either Few (is_following c.last m.number) _ _ (counted_few c.count) few
 
-  lost_few : (n : ℕ) → Few (lost_by c n)
+  lost_few : (test : FailedTest) → Few (lost_by c test)
   unfolding lost_by isolated_by
-  lost_few n = omega arith
+  lost_few test = omega arith
 
   gone_few : (f : ℕ) → Few (gone_on c m t f)
   unfolding gone_on kept_by in_period
@@ -108,10 +118,9 @@ module _ (c : Clock) (m : Message) (t : LocalTime) (few : c.count ≤ 16) where
   resynchronise_few : Few (resynchronise c m t)
   unfolding resynchronise
   resynchronise_few =
-      either Few (eqb (failing (standing_tests c.count c.resynchronised t)) 0) _ _
-      (either Few (is_above c.last m.number) _ _
-      (either Few (eqb (failing (resynchronise_tests c m t)) 0) _ _ (gone_few (mean_of c.pairs)) (lost_few (failing (resynchronise_tests c m t)))) few)
-      (lost_few (failing (standing_tests c.count c.resynchronised t)))
+      either_tested Few (failing (standing_tests c.count c.resynchronised t)) _ _
+      (either Few (is_above c.last m.number) _ _ (either_tested Few (failing (resynchronise_tests c m t)) _ _ (gone_few (mean_of c.pairs)) lost_few) few)
+      lost_few
 
 -- ---- the number of a message, for clocks alike
 module _ (l k : Last) (n : ℕ) (same : l.received ≡ k.received) (known : (l.received ≡ 0 → ⊥) → l ≡ k) where
@@ -146,7 +155,7 @@ module _ (c d : Clock) (m : Message) (t : LocalTime) (a : Alike c d) (lm : m.ref
     other : c.state ≡ 2 → ⊥
     other f = omega arith
 
-    kept_both : Both (saying 0 (kept_by c m t)) (saying 0 (kept_by d m t))
+    kept_both : Both (saying Kept (kept_by c m t)) (saying Kept (kept_by d m t))
     unfolding kept_by
     kept_both = (
       refl,
@@ -163,13 +172,13 @@ module _ (c d : Clock) (m : Message) (t : LocalTime) (a : Alike c d) (lm : m.ref
       },
     )
 
-    anew_both : (n : ℕ) → Both (anew_by c m t n) (anew_by d m t n)
+    anew_both : (test : FailedTest) → Both (anew_by c m t test) (anew_by d m t test)
     unfolding anew_by kept_by begun_anew
-    anew_both n = (
+    anew_both test = (
       refl,
       record {
-        ranged_c = anew_fits c m t a.ranged_c lm lt n;
-        ranged_d = anew_fits d m t a.ranged_d lm lt n;
+        ranged_c = anew_fits c m t a.ranged_c lm lt test;
+        ranged_d = anew_fits d m t a.ranged_d lm lt test;
         few = omega arith;
         count = refl;
         state = a.state;
@@ -180,7 +189,7 @@ module _ (c d : Clock) (m : Message) (t : LocalTime) (a : Alike c d) (lm : m.ref
       },
     )
 
-    forgotten_both : Both (saying 101 (forgotten c)) (saying 101 (forgotten d))
+    forgotten_both : Both (saying (Failed NotAbove) (forgotten c)) (saying (Failed NotAbove) (forgotten d))
     unfolding forgotten
     forgotten_both = (
       refl,
@@ -253,7 +262,7 @@ module _ (c d : Clock) (m : Message) (t : LocalTime) (a : Alike c d) (lm : m.ref
       unfolding synchronised_at kept_by paired_by
       synchronised_few = counted_few c.count
 
-      synchronised_both : 15 ≤ c.count → Both (saying 2 (synchronised_at (kept_by (paired_by c new) m t) t)) (saying 2 (synchronised_at (kept_by (paired_by d new) m t) t))
+      synchronised_both : 15 ≤ c.count → Both (saying NowSynchronised (synchronised_at (kept_by (paired_by c new) m t) t)) (saying NowSynchronised (synchronised_at (kept_by (paired_by d new) m t) t))
       synchronised_both l = (
         refl,
         alike_same (synchronised_at (kept_by (paired_by c new) m t) t) (synchronised_at (kept_by (paired_by d new) m t) t)
@@ -264,14 +273,11 @@ module _ (c d : Clock) (m : Message) (t : LocalTime) (a : Alike c d) (lm : m.ref
       joined_both : Both (joined_by c new m t) (joined_by d new m t)
       unfolding joined_by
       joined_both =
-          by_tests (ltb (kept_by (paired_by c new) m t).count 16) (ltb (kept_by (paired_by d new) m t).count 16) _ _ _ _ (ap (λ (n : ℕ). ltb n 16) (sym counted_same))
+          by_same_test (ltb (kept_by (paired_by c new) m t).count 16) (ltb (kept_by (paired_by d new) m t).count 16) _ _ _ _ (ap (λ (n : ℕ). ltb n 16) (sym counted_same))
           (λ f. (refl, joined_fewer)) (λ f. synchronised_both (enough f))
 
-      paired_both : Both (pick (eqb (first_failing c new) 0) (joined_by c new m t) (anew_by c m t (first_failing c new)))
-          (pick (eqb (first_failing d (pair_by d m)) 0) (joined_by d (pair_by d m) m t) (anew_by d m t (first_failing d (pair_by d m))))
-      paired_both =
-          rw (pair_same, ← failing_by c.count refl)
-          (by_test (eqb (first_failing c new) 0) _ _ _ _ (λ f. joined_both) (λ f. anew_both (first_failing c new)))
+      paired_both : Both (by_tests (first_failing c new) (joined_by c new m t) (anew_by c m t)) (by_tests (first_failing d (pair_by d m)) (joined_by d (pair_by d m) m t) (anew_by d m t))
+      paired_both = rw (pair_same, ← failing_by c.count refl) (by_tested (first_failing c new) _ _ _ _ joined_both anew_both)
 
     synchronise_both : Both (synchronise c m t) (synchronise d m t)
     unfolding synchronise
@@ -287,7 +293,7 @@ module _ (c d : Clock) (m : Message) (t : LocalTime) (a : Alike c d) (lm : m.ref
       (refl, alike_same (resynchronise c m t).clock (resynchronise c m t).clock (resynchronise_fits c m t a.ranged_c lm lt) (resynchronise_few c m t a.few) refl)
 
   heard_by_holds : (u v : Bool) → eqb c.state 1 ≡ u → eqb c.state 2 ≡ v
-      → Both (pick u (synchronise c m t) (pick v (resynchronise c m t) (saying 5 c))) (pick u (synchronise d m t) (pick v (resynchronise d m t) (saying 5 d)))
+      → Both (pick u (synchronise c m t) (pick v (resynchronise c m t) (saying StaysIsolated c))) (pick u (synchronise d m t) (pick v (resynchronise d m t) (saying StaysIsolated d)))
   unfolding pick
   heard_by_holds true v e f = synchronise_both (eqb-true c.state 1 e)
   heard_by_holds false true e f = resynchronise_both (eqb-true c.state 2 f)
@@ -296,7 +302,7 @@ module _ (c d : Clock) (m : Message) (t : LocalTime) (a : Alike c d) (lm : m.ref
   heard_both : Both (heard_by c m t) (heard_by d m t)
   unfolding heard_by
   heard_both =
-      subst (λ (s : ℕ). Both (heard_by c m t) (pick (eqb s 1) (synchronise d m t) (pick (eqb s 2) (resynchronise d m t) (saying 5 d)))) a.state
+      subst (λ (s : ℕ). Both (heard_by c m t) (pick (eqb s 1) (synchronise d m t) (pick (eqb s 2) (resynchronise d m t) (saying StaysIsolated d)))) a.state
       (heard_by_holds (eqb c.state 1) (eqb c.state 2) refl refl)
 
 -- ---- a run of messages, and whoever asks

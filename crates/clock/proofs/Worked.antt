@@ -4,14 +4,14 @@ use Rattle.std.proofs.Common.{refl}
 use Rattle.ground.specs.Choice.{pick}
 use Rattle.clock.specs.Circle.{minus, signed_of, distance_of, later_than, apart_by}
 use Rattle.clock.specs.Factor.{fronted, difference_of, spread_of, floor16, around, mean_of}
-use Rattle.clock.specs.Tests.{is_above, is_following, elapsed, period_over}
+use Rattle.clock.specs.Tests.{is_above, is_following, elapsed, by_tests, period_over}
 use Rattle.clock.specs.Clocks.{new_clock, kept_by, begun_anew, forgotten, isolated_by, counted_of, paired_by, synchronised_at, resynchronised_at, next_period, counting_period, period_after, in_period}
 use Rattle.clock.specs.Updates.{pair_by, anew_by, lost_by, first_failing, joined_by, synchronise, pair_taken, gone_on, resynchronise, heard_by}
 use Rattle.clock.specs.Asking.{counts_at, factor_at, adjusted_by, time_at}
 use Rattle.clock.specs.Worked.{Worked}
 
 pub worked : Worked
-unfolding pick minus signed_of distance_of later_than apart_by fronted difference_of spread_of floor16 around mean_of is_above is_following elapsed period_over new_clock kept_by begun_anew forgotten isolated_by counted_of paired_by synchronised_at resynchronised_at next_period counting_period period_after in_period pair_by anew_by lost_by first_failing joined_by synchronise pair_taken gone_on resynchronise heard_by counts_at factor_at adjusted_by time_at
+unfolding pick minus signed_of distance_of later_than apart_by fronted difference_of spread_of floor16 around mean_of is_above is_following elapsed by_tests period_over new_clock kept_by begun_anew forgotten isolated_by counted_of paired_by synchronised_at resynchronised_at next_period counting_period period_after in_period pair_by anew_by lost_by first_failing joined_by synchronise pair_taken gone_on resynchronise heard_by counts_at factor_at adjusted_by time_at
 worked =
     record {
       short_term_99_passes = refl;

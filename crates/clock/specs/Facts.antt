@@ -1,12 +1,13 @@
 -- What is shown of the clock. Each statement is proved under the same name in snake case in proofs/ (Rounding, Moving, Starting, Losing, Facts), and all of them are
 -- `facts` in proofs/Facts.antt.
 -- Assumes nothing.
-use Rattle.std.specs.Prelude.{◌≡◌, ℕ, zero, suc, ◌+◌, ◌-◌, ◌/◌, ◌%◌, ◌^◌, ◌<◌, ◌≤◌, true, false, List, [], ◌∷◌, ◌++◌, map, length, ℤ, pos, negsuc, ◌+ℤ◌, ◌*ℤ◌, ◌≤ℤ◌, ◌≢◌}
+use Rattle.std.specs.Prelude.{◌≡◌, ℕ, zero, suc, ◌+◌, ◌-◌, ◌/◌, ◌%◌, ◌^◌, ◌<◌, ◌≤◌, true, false, List, [], ◌∷◌, ◌++◌, map, length, ℤ, pos, negsuc, ◌+ℤ◌, ◌*ℤ◌, ◌≤ℤ◌, ◌≢◌, Option, Some, None, Ok}
 use Rattle.clock.specs.Limits.{pairs_of_factor}
-use Rattle.clock.specs.Events as event
+use Rattle.clock.specs.Events.{number_of}
+use Rattle.clock.specs.declared.events.FailedTest.TheVariants as failed
 use Rattle.clock.specs.Circle.{minus, distance_of, apart_by}
 use Rattle.clock.specs.Factor.{difference_of, floor16, around, newest_of, mean_of}
-use Rattle.clock.specs.Tests.{is_above, is_following, elapsed, failing, standing_tests, later_tests, period_over}
+use Rattle.clock.specs.Tests.{is_above, is_following, elapsed, all_passed, failing, standing_tests, later_tests, period_over}
 use Rattle.clock.specs.Clocks.{unsynchronised, synchronised, isolated, new_clock}
 use Rattle.clock.specs.Updates.{pair_by, tests_of_pair, lost_by, gone_on, heard_by}
 use Rattle.clock.specs.Asking.{factor_at, adjusted_by, time_at}
@@ -20,10 +21,6 @@ use Rattle.clock.specs.declared.Last.{Last}
 use Rattle.clock.specs.declared.Period.{Period}
 use Rattle.clock.specs.declared.Clock.{Clock}
 use Rattle.clock.specs.declared.Step.{Step}
-use Rattle.clock.specs.declared.Reading.TheVariants.{Good}
-use Rattle.clock.specs.declared.FactorAsked.TheVariants as asked
-use Rattle.clock.specs.declared.TimeAsked.{TimeAsked}
-use Rattle.clock.specs.declared.TimeAsked.TheVariants as time
 
 -- Every element of a list has a property.
 abbrev pub Every : {A : Type 0} → (A → Type 0) → List A → Type 0
@@ -90,39 +87,39 @@ Message0Unused = (l : Last) → is_following l 0 ≡ false
 -- What comes before the tests of 7.4.3: the clock is synchronised and stands, and the number is above the last.
 pub record Judged (c : Clock) (m : Message) (t : LocalTime) : Type 0 where
   pub synchronised : c.state ≡ synchronised
-  pub standing : failing (standing_tests c.count c.resynchronised t) ≡ 0
+  pub standing : failing (standing_tests c.count c.resynchronised t) ≡ all_passed
   pub above : is_above c.last m.number ≡ true
 
 -- On a synchronised clock with sixteen pairs: 3,000 ms since the last resynchronisation pass this test, at 3,001 synchronisation is lost (7.4.1.6).
 abbrev pub SynchronisedTimer : Type 0
 SynchronisedTimer =
     (c : Clock) (m : Message) (t : LocalTime) → c.state ≡ synchronised → pairs_of_factor ≤ c.count
-    → (elapsed c.resynchronised t ≤ 3000 → failing (standing_tests c.count c.resynchronised t) ≡ 0)
-    × (3001 ≤ elapsed c.resynchronised t → heard_by c m t ≡ lost_by c event.too_late)
+    → (elapsed c.resynchronised t ≤ 3000 → failing (standing_tests c.count c.resynchronised t) ≡ all_passed)
+    × (3001 ≤ elapsed c.resynchronised t → heard_by c m t ≡ lost_by c failed.TooLate)
 
 -- A pair of which both times are later passes the tests of a pair at 99 ms from the factor; at 100 synchronisation is lost (7.4.3.5).
 abbrev pub ShortTerm : Type 0
 ShortTerm =
-    (c : Clock) (m : Message) (t : LocalTime) → Judged c m t → is_following c.last m.number ≡ true → failing (later_tests (pair_by c m) (newest_of c.pairs)) ≡ 0
-    → (apart_by (difference_of (pair_by c m)) (mean_of c.pairs) ≤ 99 → failing (tests_of_pair c m (mean_of c.pairs)) ≡ 0)
-    × (100 ≤ apart_by (difference_of (pair_by c m)) (mean_of c.pairs) → heard_by c m t ≡ lost_by c event.short_term)
+    (c : Clock) (m : Message) (t : LocalTime) → Judged c m t → is_following c.last m.number ≡ true → failing (later_tests (pair_by c m) (newest_of c.pairs)) ≡ all_passed
+    → (apart_by (difference_of (pair_by c m)) (mean_of c.pairs) ≤ 99 → failing (tests_of_pair c m (mean_of c.pairs)) ≡ all_passed)
+    × (100 ≤ apart_by (difference_of (pair_by c m)) (mean_of c.pairs) → heard_by c m t ≡ lost_by c failed.ShortTerm)
 
 -- Where a message passes the tests of its pair, or makes none, and shows the period's end: with 17 messages or fewer in it synchronisation is lost (7.4.3.6); with 18 or
 -- more the clock goes on at 30 ms, and synchronisation is lost at 31 (7.4.3.7).
 abbrev pub PeriodJudged : Type 0
 PeriodJudged =
-    (c : Clock) (m : Message) (t : LocalTime) → Judged c m t → failing (tests_of_pair c m (mean_of c.pairs)) ≡ 0 → period_over c.period t ≡ true
-    → (c.period.messages ≤ 17 → heard_by c m t ≡ lost_by c event.too_few)
+    (c : Clock) (m : Message) (t : LocalTime) → Judged c m t → failing (tests_of_pair c m (mean_of c.pairs)) ≡ all_passed → period_over c.period t ≡ true
+    → (c.period.messages ≤ 17 → heard_by c m t ≡ lost_by c failed.TooFew)
     × (18 ≤ c.period.messages
     → (apart_by (mean_of c.pairs) c.period.factor ≤ 30 → heard_by c m t ≡ gone_on c m t (mean_of c.pairs))
-    × (31 ≤ apart_by (mean_of c.pairs) c.period.factor → heard_by c m t ≡ lost_by c event.long_term))
+    × (31 ≤ apart_by (mean_of c.pairs) c.period.factor → heard_by c m t ≡ lost_by c failed.LongTerm))
 
 -- ---- Losing synchronisation
 
 -- A test that fails while synchronised isolates, and no pair counts.
 abbrev pub LostIsolates : Type 0
 LostIsolates =
-    (c : Clock) (m : Message) (t : LocalTime) → c.state ≡ synchronised → 101 ≤ (heard_by c m t).event
+    (c : Clock) (m : Message) (t : LocalTime) → c.state ≡ synchronised → 101 ≤ number_of (heard_by c m t).event
     → ((heard_by c m t).clock.state ≡ isolated) × ((heard_by c m t).clock.count ≡ 0)
 
 -- The clock after a run of messages, each with the local time at its reception.
@@ -146,16 +143,16 @@ SixteenWhenSynchronised = (xs : List (Message × LocalTime)) → (after new_cloc
 abbrev pub TimeGiven : Type 0
 TimeGiven =
     (c : Clock) (t : LocalTime) → c.state ≡ synchronised → pairs_of_factor ≤ c.count → apart_by t.0 c.resynchronised.0 ≤ 3000
-    → time_at c t ≡ time.At (adjusted_by t (mean_of c.pairs))
+    → time_at c t ≡ Some (adjusted_by t (mean_of c.pairs))
 
 -- A clock that is not synchronised gives neither factor nor time (7.4.1.1) ..
 abbrev pub NotBefore : Type 0
-NotBefore = (c : Clock) (t : LocalTime) → (c.state ≢ synchronised) → (factor_at c t ≡ asked.TooFewPairs) × (time_at c t ≡ time.TooFewPairs)
+NotBefore = (c : Clock) (t : LocalTime) → (c.state ≢ synchronised) → (factor_at c t ≡ None) × (time_at c t ≡ None)
 
 -- .. nor does one at a moment more than 3 s away from the last resynchronisation, on the circle of 2^32: 49.7 days later is near again (docs/TRUST.md).
 abbrev pub NeverStale : Type 0
 NeverStale =
-    (c : Clock) (t : LocalTime) → 3001 ≤ apart_by t.0 c.resynchronised.0 → (factor_at c t ≡ asked.TooFewPairs) × (time_at c t ≡ time.TooFewPairs)
+    (c : Clock) (t : LocalTime) → 3001 ≤ apart_by t.0 c.resynchronised.0 → (factor_at c t ≡ None) × (time_at c t ≡ None)
 
 -- ---- The wrap
 
@@ -217,9 +214,9 @@ WrapUnseenRun =
     → after (moved_clock j k c) (map (moved_heard j k) xs) ≡ moved_clock j k (after c xs)
 
 -- An answer, moved.
-abbrev pub moved_asked : ℕ → TimeAsked → TimeAsked
-moved_asked j (time.At r) = time.At (record { 0 = onward j r.0 })
-moved_asked j time.TooFewPairs = time.TooFewPairs
+abbrev pub moved_asked : ℕ → Option RefTime → Option RefTime
+moved_asked j (Some r) = Some (record { 0 = onward j r.0 })
+moved_asked j None = None
 
 -- And the Reference Time asked for is the same, moved.
 abbrev pub WrapUnseenAsking : Type 0
@@ -246,7 +243,7 @@ lowest_first (suc n) x = x % 256 ∷ lowest_first n (x / 256)
 abbrev pub ReadBack : Type 0
 ReadBack =
     (m : Message) → m.number < 2 ^ 32 → m.reference.0 < 2 ^ 32
-    → read_by (3 ∷ 0 ∷ 0 ∷ lowest_first 4 m.number ++ lowest_first 4 m.reference.0) ≡ Good m
+    → read_by (3 ∷ 0 ∷ 0 ∷ lowest_first 4 m.number ++ lowest_first 4 m.reference.0) ≡ Ok m
 
 -- ---- All of them
 

@@ -1,17 +1,18 @@
 -- Worked numbers: each limit at both its sides, on a clock that is given, and a clock from its first message on. proofs/Worked.antt proves `Worked` under the same name in
 -- small letters.
 -- Assumes nothing.
-use Rattle.std.specs.Prelude.{◌≡◌, ℕ, zero, suc, ◌+◌, ◌*◌, List, [], ◌∷◌, replicate}
+use Rattle.std.specs.Prelude.{◌≡◌, ℕ, zero, suc, ◌+◌, ◌*◌, List, [], ◌∷◌, replicate, Some}
 use Rattle.clock.specs.Factor.{mean_of}
 use Rattle.clock.specs.Clocks.{new_clock}
 use Rattle.clock.specs.Updates.{heard_by}
 use Rattle.clock.specs.Asking.{time_at}
+use Rattle.clock.specs.Events.{number_of}
+use Rattle.clock.specs.declared.events.Event.TheVariants.{Dropped}
 use Rattle.clock.specs.Facts.{after}
 use Rattle.clock.specs.declared.LocalTime.{LocalTime}
 use Rattle.clock.specs.declared.Pair.{Pair}
 use Rattle.clock.specs.declared.Message.{Message}
 use Rattle.clock.specs.declared.Clock.{Clock}
-use Rattle.clock.specs.declared.TimeAsked.TheVariants as time
 
 abbrev pub pair_of : ℕ → ℕ → Pair
 pair_of reference local = record { reference = record { 0 = reference }; local = record { 0 = local } }
@@ -34,9 +35,9 @@ steady begun factor messages = record {
   period = record { begun = at begun; factor = factor; messages = messages };
 }
 
--- The event of message 8, or another one, on such a clock: the time it carries, and when it comes.
+-- The number of the event of message 8, or another one, on such a clock: the time it carries, and when it comes.
 abbrev pub event : Clock → ℕ → ℕ → ℕ → ℕ
-event c number reference local = (heard_by c (message number reference) (at local)).event
+event c number reference local = number_of (heard_by c (message number reference) (at local)).event
 
 -- Messages n, n + 1, .. of a reference clock that starts at 4,294,966,000 and wraps, one each 500 ms; the local clock is at 1,000 at message 0. Message 0 carries 0.
 abbrev pub reference : ℕ → ℕ
@@ -69,11 +70,11 @@ pub record Worked : Type 0 where
   pub the_same_time_fails : event (steady 40500 60000 1) 8 100000 41000 ≡ 104
   -- message 8 was lost; message 7 comes again
   pub no_pair_behind_a_gap : event (steady 40500 60000 1) 9 100500 41000 ≡ 0
-  pub a_number_again_is_dropped : heard_by (steady 40500 60000 1) (message 7 100500) (at 41000) ≡ record { clock = steady 40500 60000 1; event = 4 }
+  pub a_number_again_is_dropped : heard_by (steady 40500 60000 1) (message 7 100500) (at 41000) ≡ record { clock = steady 40500 60000 1; event = Dropped }
   -- fifteen differences a millisecond less than the newest: -15 / 16 is rounded down to -1. Fifteen a millisecond more: 15 / 16 is rounded down to 0
   pub rounded_down : mean_of (pair_of 60000 0 ∷ replicate 15 (pair_of 59999 0)) ≡ 59999
   pub rounded_down_from_below : mean_of (pair_of 59999 0 ∷ replicate 15 (pair_of 60000 0)) ≡ 59999
   -- seventeen messages from the first on synchronise, across the wrap; sixteen do not
   pub sixteen_messages : (after new_clock (run 0 16)).state ≡ 1
   pub seventeen_messages : (after new_clock (run 0 17)).state ≡ 2
-  pub the_time_then : time_at (after new_clock (run 0 17)) (at 9000) ≡ time.At (record { 0 = 6704 })
+  pub the_time_then : time_at (after new_clock (run 0 17)) (at 9000) ≡ Some (record { 0 = 6704 })

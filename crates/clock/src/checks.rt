@@ -1,11 +1,9 @@
-// The tests of 7.4.2.2 and 7.4.3, and of 7.4.1.5 and 7.4.1.6. Where several stand in a row, the answer is 0 or the number of the first that fails.
+// The tests of 7.4.2.2 and 7.4.3, and of 7.4.1.5 and 7.4.1.6. Where several stand in a row, the answer is the first that fails, if one does.
 ghost use Rattle.std.specs.Prelude.{◌≡◌};
 ghost use Rattle.clock.specs.Tests.{is_above, is_following, elapsed, failing, standing_tests, later_tests, near_tests, pair_tests, period_over, period_tests};
 
-use crate::circle::{apart, later, less};
-use crate::events::{
-    LOCAL_NOT_LATER, LONG_TERM, NO_FACTOR, REFERENCE_NOT_LATER, SHORT_TERM, TOO_FEW, TOO_LATE,
-};
+use crate::circle::{apart, later};
+use crate::events::FailedTest;
 use crate::means::difference;
 use crate::{Last, LocalTime, Pair, Period};
 
@@ -32,10 +30,7 @@ const DRIFT: u64 = 30;
 pub(crate) fn above(last: Last, number: u32) -> bool
     ensures { result ≡ is_above last number }
 {
-    if last.received == 0 {
-        return true;
-    }
-    last.number < number
+    last.received == 0 || last.number < number
 }
 
 // Whether the message before this number was the one received last.
@@ -43,72 +38,66 @@ pub(crate) fn above(last: Last, number: u32) -> bool
 pub(crate) fn follows(last: Last, number: u32) -> bool
     ensures { result ≡ is_following last number }
 {
-    if last.received == 0 {
-        return false;
-    }
-    if number == 0 {
-        return false;
-    }
-    number - 1 == last.number
+    last.received != 0 && number != 0 && number - 1 == last.number
 }
 
 // The milliseconds from one moment to another.
-#[tactic(auto, unfolding(crate::specs::Tests::elapsed))]
+#[tactic(auto, unfolding(crate::specs::Circle::minus, crate::specs::Tests::elapsed))]
 pub(crate) fn passed(from: LocalTime, to: LocalTime) -> u32
     ensures { result ≡ elapsed from to }
 {
-    less(to.0, from.0)
+    to.0.wrapping_sub(from.0)
 }
 
 // 7.4.1.5.1 and 7.4.1.6: there is a factor, and the last resynchronisation is not too long ago.
 #[tactic(auto, unfolding(ground::specs::Choice::pick))]
-pub(crate) fn standing(count: u32, resynchronised: LocalTime, local: LocalTime) -> u32
+pub(crate) fn standing(
+    count: u32,
+    resynchronised: LocalTime,
+    local: LocalTime,
+) -> Result<(), FailedTest>
     ensures { result ≡ failing (standing_tests count resynchronised local) }
 {
     if count < PAIRS {
-        return NO_FACTOR;
+        return Err(FailedTest::NoFactor);
     }
     if passed(resynchronised, local) > LOCAL_CLOCK_MAX_RESYNC_INTERVAL {
-        return TOO_LATE;
+        return Err(FailedTest::TooLate);
     }
-    0
+    Ok(())
 }
 
 // 7.4.3.3 and 7.4.3.4, which are 7.4.2.2.1 and 7.4.2.2.2: both times are later than those of the newest pair.
 #[tactic(auto, unfolding(ground::specs::Choice::pick))]
-pub(crate) fn later_test(new: Pair, newest: Pair) -> u32
+pub(crate) fn later_test(new: Pair, newest: Pair) -> Result<(), FailedTest>
     ensures { result ≡ failing (later_tests new newest) }
 {
     if !later(new.reference.0, newest.reference.0) {
-        return REFERENCE_NOT_LATER;
+        return Err(FailedTest::ReferenceNotLater);
     }
     if !later(new.local.0, newest.local.0) {
-        return LOCAL_NOT_LATER;
+        return Err(FailedTest::LocalNotLater);
     }
-    0
+    Ok(())
 }
 
 // 7.4.3.5: the pair is near the factor in use before it.
 #[tactic(auto, unfolding(ground::specs::Choice::pick))]
-fn near(new: Pair, factor: u32) -> u32
+fn near(new: Pair, factor: u32) -> Result<(), FailedTest>
     ensures { result ≡ failing (near_tests new factor) }
 {
-    let d = difference(new);
-    if apart(d, factor) < MAX_CLOCK_INACCURACY {
-        return 0;
+    if apart(difference(new), factor) >= MAX_CLOCK_INACCURACY {
+        return Err(FailedTest::ShortTerm);
     }
-    SHORT_TERM
+    Ok(())
 }
 
 // 7.4.3.3 to 7.4.3.5.
 #[tactic(auto, unfolding(ground::specs::Choice::pick))]
-pub(crate) fn pair_test(new: Pair, newest: Pair, factor: u32) -> u32
+pub(crate) fn pair_test(new: Pair, newest: Pair, factor: u32) -> Result<(), FailedTest>
     ensures { result ≡ failing (pair_tests new newest factor) }
 {
-    let order = later_test(new, newest);
-    if order != 0 {
-        return order;
-    }
+    later_test(new, newest)?;
     near(new, factor)
 }
 
@@ -122,14 +111,14 @@ pub(crate) fn period_over(period: Period, local: LocalTime) -> bool
 
 // 7.4.3.6 and 7.4.3.7, for a period that is over.
 #[tactic(auto, unfolding(ground::specs::Choice::pick))]
-pub(crate) fn period_test(period: Period, factor: u32) -> u32
+pub(crate) fn period_test(period: Period, factor: u32) -> Result<(), FailedTest>
     ensures { result ≡ failing (period_tests period factor) }
 {
     if period.messages < MIN_NUMBER_OF_MESSAGES {
-        return TOO_FEW;
+        return Err(FailedTest::TooFew);
     }
     if apart(factor, period.factor) > DRIFT {
-        return LONG_TERM;
+        return Err(FailedTest::LongTerm);
     }
-    0
+    Ok(())
 }

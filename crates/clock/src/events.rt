@@ -1,28 +1,58 @@
-// What a message did, by its number: no pair, a pair, the sixteenth, a pair with all tests passed, dropped, not looked at. Those from 101 on name the test that failed.
-pub const KEPT: u32 = 0;
+// What a message did, and its number for C.
+ghost use Rattle.std.specs.Prelude.{◌≡◌};
+ghost use Rattle.clock.specs.Events.{number_of};
 
-pub const PAIRED: u32 = 1;
+// What a message did to the clock.
+#[derive(Clone, Copy, Debug, PartialEq, Eq)]
+pub enum Event {
+    // No pair: the message is kept for the next one.
+    Kept,
+    // One pair more, and not yet sixteen.
+    Paired,
+    // The sixteenth pair.
+    NowSynchronised,
+    // One pair more, and all tests passed.
+    Resynchronised,
+    // Synchronised, and the number is not above the last: not looked at.
+    Dropped,
+    // Isolated: not looked at.
+    StaysIsolated,
+    Failed(FailedTest),
+}
 
-pub const NOW_SYNCHRONISED: u32 = 2;
+// The test that failed, by its number.
+#[derive(Clone, Copy, Debug, PartialEq, Eq)]
+pub enum FailedTest {
+    // Unsynchronised, and the number is not above the last.
+    NotAbove = 101,
+    // 7.4.1.5.1
+    NoFactor = 102,
+    // 7.4.1.6.1
+    TooLate = 103,
+    // 7.4.2.2.1, 7.4.3.3
+    ReferenceNotLater = 104,
+    // 7.4.2.2.2, 7.4.3.4
+    LocalNotLater = 105,
+    // 7.4.3.5
+    ShortTerm = 106,
+    // 7.4.3.6
+    TooFew = 107,
+    // 7.4.3.7
+    LongTerm = 108,
+}
 
-pub const RESYNCHRONISED: u32 = 3;
+impl From<Event> for u32 {
+    ghost from_gives = { λ event number. number ≡ number_of event };
 
-pub const DROPPED: u32 = 4;
-
-pub const STAYS_ISOLATED: u32 = 5;
-
-pub const NOT_ABOVE: u32 = 101;
-
-pub const NO_FACTOR: u32 = 102;
-
-pub const TOO_LATE: u32 = 103;
-
-pub const REFERENCE_NOT_LATER: u32 = 104;
-
-pub const LOCAL_NOT_LATER: u32 = 105;
-
-pub const SHORT_TERM: u32 = 106;
-
-pub const TOO_FEW: u32 = 107;
-
-pub const LONG_TERM: u32 = 108;
+    fn from(event: Event) -> u32 {
+        match event {
+            Event::Kept => 0,
+            Event::Paired => 1,
+            Event::NowSynchronised => 2,
+            Event::Resynchronised => 3,
+            Event::Dropped => 4,
+            Event::StaysIsolated => 5,
+            Event::Failed(test) => test as u32,
+        }
+    }
+}

@@ -2,43 +2,36 @@
 ghost use Rattle.std.specs.Prelude.{◌≡◌, length};
 ghost use Rattle.clock.specs.Reading.{prefixed, read_by};
 
-use crate::{Message, Reading, RefTime};
+use crate::{Message, RefTime, Unreadable};
 use ground::bytes_at;
 
 // How many bytes a message has.
 const BYTES: usize = 11;
 
-// The configuration data prefix: 3, 0, 0.
+// Whether the configuration data prefix stands first.
 #[tactic(auto, unfolding(ground::specs::Choice::pick, crate::specs::Reading::prefixed))]
 fn has_prefix(bytes: &[u8]) -> bool
     requires { length bytes.now ≡ 11 }
     ensures { result ≡ prefixed bytes.now }
 {
-    if bytes[0] != 3 {
-        return false;
-    }
-    if bytes[1] != 0 {
-        return false;
-    }
-    bytes[2] == 0
+    matches!(bytes, [3, 0, 0, ..])
 }
 
-// What a run of bytes is.
+// The message that a run of bytes is.
 #[tactic(auto, unfolding(ground::specs::Choice::pick, crate::specs::Reading::read_by))]
-pub fn read_message(bytes: &[u8]) -> Reading
+pub fn read_message(bytes: &[u8]) -> Result<Message, Unreadable>
     ensures { result ≡ read_by bytes.now }
 {
     if bytes.len() != BYTES {
-        return Reading::NotEleven;
+        return Err(Unreadable::NotEleven);
     }
     if !has_prefix(bytes) {
-        return Reading::OtherPrefix;
+        return Err(Unreadable::OtherPrefix);
     }
-    let number = u32::from_le_bytes(bytes_at::<4>(bytes, 3));
-    let time = u32::from_le_bytes(bytes_at::<4>(bytes, 7));
-    let message = Message {
+    let number = u32::from_le_bytes(bytes_at(bytes, 3));
+    let time = u32::from_le_bytes(bytes_at(bytes, 7));
+    Ok(Message {
         number,
         reference: RefTime(time),
-    };
-    Reading::Good(message)
+    })
 }

@@ -12,9 +12,6 @@ pub const SYNCHRONISED: u32 = 2;
 
 pub const ISOLATED: u32 = 3;
 
-// The greatest number of messages that a period counts.
-const MOST_MESSAGES: u32 = 0xFFFF_FFFF;
-
 // A clock that has received no message.
 #[tactic(auto, unfolding(crate::specs::Clocks::new_clock))]
 pub fn new_clock() -> Clock
@@ -43,11 +40,11 @@ pub fn new_clock() -> Clock
 }
 
 // One more pair counts, and at most sixteen.
-#[tactic(auto, unfolding(ground::specs::Choice::pick, crate::specs::Clocks::counted_of))]
-pub(crate) fn counted(count: u32) -> u32
+#[tactic(auto, using(ground::specs::Choice::tests), unfolding(ground::specs::Choice::pick, crate::specs::Clocks::counted_of))]
+fn counted(count: u32) -> u32
     ensures { result ≡ counted_of count }
 {
-    if count < PAIRS { count + 1 } else { PAIRS }
+    count.min(PAIRS - 1) + 1
 }
 
 // The message is kept for the next one, 7.2.1.13.
@@ -60,9 +57,7 @@ pub(crate) fn kept(c: Clock, message: Message, local: LocalTime) -> Clock
         number: message.number,
         local,
     };
-    let mut d = c;
-    d.last = last;
-    d
+    Clock { last, ..c }
 }
 
 // The pairs begin anew: none counts.
@@ -70,9 +65,7 @@ pub(crate) fn kept(c: Clock, message: Message, local: LocalTime) -> Clock
 pub(crate) fn begun_anew(c: Clock) -> Clock
     ensures { result ≡ begun_anew c }
 {
-    let mut d = c;
-    d.count = 0;
-    d
+    Clock { count: 0, ..c }
 }
 
 // As before the first message.
@@ -80,12 +73,15 @@ pub(crate) fn begun_anew(c: Clock) -> Clock
 pub(crate) fn forgetting(c: Clock) -> Clock
     ensures { result ≡ forgotten c }
 {
-    let mut last = c.last;
-    last.received = 0;
-    let mut d = c;
-    d.count = 0;
-    d.last = last;
-    d
+    let last = Last {
+        received: 0,
+        ..c.last
+    };
+    Clock {
+        count: 0,
+        last,
+        ..c
+    }
 }
 
 // Isolated, 7.4.1.7.2.3: no pair counts.
@@ -93,10 +89,11 @@ pub(crate) fn forgetting(c: Clock) -> Clock
 pub(crate) fn isolated(c: Clock) -> Clock
     ensures { result ≡ isolated_by c }
 {
-    let mut d = c;
-    d.count = 0;
-    d.state = ISOLATED;
-    d
+    Clock {
+        count: 0,
+        state: ISOLATED,
+        ..c
+    }
 }
 
 // One pair more.
@@ -104,13 +101,9 @@ pub(crate) fn isolated(c: Clock) -> Clock
 pub(crate) fn paired(c: Clock, new: Pair) -> Clock
     ensures { result ≡ paired_by c new }
 {
-    let old = c.pairs;
-    let pairs = shifted(old, new);
+    let pairs = shifted(c.pairs, new);
     let count = counted(c.count);
-    let mut d = c;
-    d.pairs = pairs;
-    d.count = count;
-    d
+    Clock { pairs, count, ..c }
 }
 
 // Synchronised, with the first period from this moment on; the message that came now is its first.
@@ -118,18 +111,17 @@ pub(crate) fn paired(c: Clock, new: Pair) -> Clock
 pub(crate) fn synchronised(c: Clock, local: LocalTime) -> Clock
     ensures { result ≡ synchronised_at c local }
 {
-    let pairs = c.pairs;
-    let factor = mean(pairs);
     let period = Period {
         begun: local,
-        factor,
+        factor: mean(c.pairs),
         messages: 1,
     };
-    let mut d = c;
-    d.state = SYNCHRONISED;
-    d.resynchronised = local;
-    d.period = period;
-    d
+    Clock {
+        state: SYNCHRONISED,
+        resynchronised: local,
+        period,
+        ..c
+    }
 }
 
 // The period that follows one that is over, with the message that shows it.
@@ -137,7 +129,7 @@ pub(crate) fn synchronised(c: Clock, local: LocalTime) -> Clock
 fn next_period(period: Period, factor: u32) -> Period
     ensures { result ≡ next_period period factor }
 {
-    let begun = std::num::wrapping_add_u32(period.begun.0, TIME_FOR_LONG_TERM_DRIFT_CHECK);
+    let begun = period.begun.0.wrapping_add(TIME_FOR_LONG_TERM_DRIFT_CHECK);
     Period {
         begun: LocalTime(begun),
         factor,
@@ -145,16 +137,13 @@ fn next_period(period: Period, factor: u32) -> Period
     }
 }
 
-// The period with one message more.
-#[tactic(auto, unfolding(ground::specs::Choice::pick, crate::specs::Clocks::counting_period))]
+// The period with one message more. The count ends at the greatest number.
+#[tactic(auto, using(ground::specs::Choice::tests), unfolding(ground::specs::Choice::pick, crate::specs::Clocks::counting_period))]
 fn counting(period: Period) -> Period
     ensures { result ≡ counting_period period }
 {
-    let mut p = period;
-    if period.messages < MOST_MESSAGES {
-        p.messages = period.messages + 1;
-    }
-    p
+    let messages = period.messages.saturating_add(1);
+    Period { messages, ..period }
 }
 
 // The period after a message: the next one where it is over, else the same.
@@ -163,9 +152,10 @@ fn period_after(period: Period, over: bool, factor: u32) -> Period
     ensures { result ≡ period_after period over factor }
 {
     if over {
-        return next_period(period, factor);
+        next_period(period, factor)
+    } else {
+        counting(period)
     }
-    counting(period)
 }
 
 // The period goes on, or the next one begins.
@@ -174,9 +164,7 @@ pub(crate) fn in_period(c: Clock, over: bool, factor: u32) -> Clock
     ensures { result ≡ in_period c over factor }
 {
     let period = period_after(c.period, over, factor);
-    let mut d = c;
-    d.period = period;
-    d
+    Clock { period, ..c }
 }
 
 // Resynchronised at this moment.
@@ -184,7 +172,8 @@ pub(crate) fn in_period(c: Clock, over: bool, factor: u32) -> Clock
 pub(crate) fn resynchronised(c: Clock, local: LocalTime) -> Clock
     ensures { result ≡ resynchronised_at c local }
 {
-    let mut d = c;
-    d.resynchronised = local;
-    d
+    Clock {
+        resynchronised: local,
+        ..c
+    }
 }

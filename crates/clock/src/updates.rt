@@ -1,15 +1,13 @@
-// What a message does, by value: Synchronise, 7.4.2, and Resynchronise, 7.4.3.
+// What a message does, by value: Synchronise, 7.4.2, and Resynchronise, 7.4.3. Clock, message and moment stay three parameters, as in `uj_clock_message` and in
+// the definitions: a struct of them would be taken apart again in each function.
 ghost use Rattle.std.specs.Prelude.{◌≡◌, ◌++◌};
-ghost use Rattle.clock.specs.Factor.{newest_of};
 ghost use Rattle.clock.specs.Tests.{failing};
 ghost use Rattle.clock.specs.Updates.{pair_by, anew_by, lost_by, first_failing, synchronise, tests_of_pair, tests_of_period, joined_by, pair_taken, gone_on, resynchronise, heard_by};
 
 use crate::checks::{
     PAIRS, above, follows, later_test, pair_test, period_over, period_test, standing,
 };
-use crate::events::{
-    DROPPED, KEPT, NOT_ABOVE, NOW_SYNCHRONISED, PAIRED, RESYNCHRONISED, STAYS_ISOLATED,
-};
+use crate::events::{Event, FailedTest};
 use crate::means::mean;
 use crate::states::{
     SYNCHRONISED, UNSYNCHRONISED, begun_anew, forgetting, in_period, isolated, kept, paired,
@@ -22,49 +20,43 @@ use crate::{Clock, LocalTime, Message, Pair, Step};
 fn pair_of(c: Clock, message: Message) -> Pair
     ensures { result ≡ pair_by c message }
 {
-    let reference = message.reference;
-    let last = c.last;
-    let local = last.local;
-    Pair { reference, local }
-}
-
-// The newest pair.
-fn newest(pairs: [Pair; 16]) -> Pair
-    ensures { result ≡ newest_of pairs }
-{
-    pairs[0]
+    Pair {
+        reference: message.reference,
+        local: c.last.local,
+    }
 }
 
 // A failed test of a clock that is not synchronised: the pairs begin anew, and the message is kept.
 #[tactic(auto, unfolding(crate::specs::Updates::anew_by))]
-fn anew(c: Clock, message: Message, local: LocalTime, event: u32) -> Step
-    ensures { result ≡ anew_by c message local event }
+fn anew(c: Clock, message: Message, local: LocalTime, test: FailedTest) -> Step
+    ensures { result ≡ anew_by c message local test }
 {
-    let none = begun_anew(c);
-    let clock = kept(none, message, local);
-    Step { clock, event }
+    Step {
+        clock: kept(begun_anew(c), message, local),
+        event: Event::Failed(test),
+    }
 }
 
 // A failed test of a clock that is synchronised: LostSync, 7.4.1.7.3.3.
 #[tactic(auto, unfolding(crate::specs::Updates::lost_by))]
-fn lost(c: Clock, event: u32) -> Step
-    ensures { result ≡ lost_by c event }
+fn lost(c: Clock, test: FailedTest) -> Step
+    ensures { result ≡ lost_by c test }
 {
-    let clock = isolated(c);
-    Step { clock, event }
+    Step {
+        clock: isolated(c),
+        event: Event::Failed(test),
+    }
 }
 
 // 7.4.2.2: the tests of a pair while unsynchronised. The first pair has none before it.
 #[tactic(auto, unfolding(ground::specs::Choice::pick, crate::specs::Updates::first_failing))]
-fn first_failing(c: Clock, new: Pair) -> u32
+fn first_failing(c: Clock, new: Pair) -> Result<(), FailedTest>
     ensures { result ≡ first_failing c new }
 {
     if c.count == 0 {
-        return 0;
+        return Ok(());
     }
-    let pairs = c.pairs;
-    let before = newest(pairs);
-    later_test(new, before)
+    later_test(new, c.pairs[0])
 }
 
 // A pair more while unsynchronised: the sixteenth synchronises.
@@ -72,78 +64,71 @@ fn first_failing(c: Clock, new: Pair) -> u32
 fn joined(c: Clock, new: Pair, message: Message, local: LocalTime) -> Step
     ensures { result ≡ joined_by c new message local }
 {
-    let with = paired(c, new);
-    let clock = kept(with, message, local);
+    let clock = kept(paired(c, new), message, local);
     if clock.count < PAIRS {
         return Step {
             clock,
-            event: PAIRED,
+            event: Event::Paired,
         };
     }
-    let begun = synchronised(clock, local);
     Step {
-        clock: begun,
-        event: NOW_SYNCHRONISED,
+        clock: synchronised(clock, local),
+        event: Event::NowSynchronised,
     }
 }
 
 // 7.4.2: the clock is not yet synchronised.
-#[tactic(auto, unfolding(ground::specs::Choice::pick, crate::specs::Updates::synchronise))]
+#[tactic(auto, unfolding(ground::specs::Choice::pick, crate::specs::Tests::by_tests, crate::specs::Updates::synchronise))]
 fn synchronise(c: Clock, message: Message, local: LocalTime) -> Step
     ensures { result ≡ synchronise c message local }
 {
     if !above(c.last, message.number) {
-        let clock = forgetting(c);
         return Step {
-            clock,
-            event: NOT_ABOVE,
+            clock: forgetting(c),
+            event: Event::Failed(FailedTest::NotAbove),
         };
     }
     if !follows(c.last, message.number) {
-        let clock = kept(c, message, local);
-        return Step { clock, event: KEPT };
+        return Step {
+            clock: kept(c, message, local),
+            event: Event::Kept,
+        };
     }
     let new = pair_of(c, message);
-    let failed = first_failing(c, new);
-    if failed != 0 {
-        return anew(c, message, local, failed);
+    match first_failing(c, new) {
+        Ok(()) => joined(c, new, message, local),
+        Err(test) => anew(c, message, local, test),
     }
-    joined(c, new, message, local)
 }
 
 // 7.4.3.3 to 7.4.3.5, where the message makes a pair.
 #[tactic(auto, unfolding(ground::specs::Choice::pick))]
-fn pair_failing(c: Clock, message: Message, factor: u32) -> u32
+fn pair_failing(c: Clock, message: Message, factor: u32) -> Result<(), FailedTest>
     ensures { result ≡ failing (tests_of_pair c message factor) }
 {
     if !follows(c.last, message.number) {
-        return 0;
+        return Ok(());
     }
-    let new = pair_of(c, message);
-    let pairs = c.pairs;
-    let before = newest(pairs);
-    pair_test(new, before, factor)
+    pair_test(pair_of(c, message), c.pairs[0], factor)
 }
 
 // 7.4.3.6 and 7.4.3.7, where the period is over.
 #[tactic(auto, unfolding(ground::specs::Choice::pick))]
-fn period_failing(c: Clock, local: LocalTime, factor: u32) -> u32
+fn period_failing(c: Clock, local: LocalTime, factor: u32) -> Result<(), FailedTest>
     ensures { result ≡ failing (tests_of_period c local factor) }
 {
     if !period_over(c.period, local) {
-        return 0;
+        return Ok(());
     }
     period_test(c.period, factor)
 }
 
 // The first test that fails, in the order of the paper.
-fn all_failing(c: Clock, message: Message, local: LocalTime, factor: u32) -> u32
+#[tactic(auto, using(crate::proofs::Cases::failing_join), unfolding(crate::specs::Tests::by_tests))]
+fn all_failing(c: Clock, message: Message, local: LocalTime, factor: u32) -> Result<(), FailedTest>
     ensures { result ≡ failing (tests_of_pair c message factor ++ tests_of_period c local factor) }
 {
-    let failed = pair_failing(c, message, factor);
-    if failed != 0 {
-        return failed;
-    }
+    pair_failing(c, message, factor)?;
     period_failing(c, local, factor)
 }
 
@@ -155,15 +140,13 @@ fn pair_taken(c: Clock, message: Message, local: LocalTime) -> Step
     if !follows(c.last, message.number) {
         return Step {
             clock: c,
-            event: KEPT,
+            event: Event::Kept,
         };
     }
-    let new = pair_of(c, message);
-    let with = paired(c, new);
-    let clock = resynchronised(with, local);
+    let with = paired(c, pair_of(c, message));
     Step {
-        clock,
-        event: RESYNCHRONISED,
+        clock: resynchronised(with, local),
+        event: Event::Resynchronised,
     }
 }
 
@@ -175,35 +158,31 @@ fn gone_on(c: Clock, message: Message, local: LocalTime, factor: u32) -> Step
     let taken = pair_taken(c, message, local);
     let over = period_over(c.period, local);
     let with = in_period(taken.clock, over, factor);
-    let clock = kept(with, message, local);
     Step {
-        clock,
-        event: taken.event,
+        clock: kept(with, message, local),
+        ..taken
     }
 }
 
 // 7.4.3: the clock is synchronised.
-#[tactic(auto, unfolding(ground::specs::Choice::pick, crate::specs::Updates::resynchronise))]
+#[tactic(auto, unfolding(ground::specs::Choice::pick, crate::specs::Tests::by_tests, crate::specs::Updates::resynchronise))]
 fn resynchronise(c: Clock, message: Message, local: LocalTime) -> Step
     ensures { result ≡ resynchronise c message local }
 {
-    let fallen = standing(c.count, c.resynchronised, local);
-    if fallen != 0 {
-        return lost(c, fallen);
+    if let Err(test) = standing(c.count, c.resynchronised, local) {
+        return lost(c, test);
     }
     if !above(c.last, message.number) {
         return Step {
             clock: c,
-            event: DROPPED,
+            event: Event::Dropped,
         };
     }
-    let pairs = c.pairs;
-    let factor = mean(pairs);
-    let failed = all_failing(c, message, local, factor);
-    if failed != 0 {
-        return lost(c, failed);
+    let factor = mean(c.pairs);
+    match all_failing(c, message, local, factor) {
+        Ok(()) => gone_on(c, message, local, factor),
+        Err(test) => lost(c, test),
     }
-    gone_on(c, message, local, factor)
 }
 
 // The clock after a message, and the event.
@@ -211,14 +190,12 @@ fn resynchronise(c: Clock, message: Message, local: LocalTime) -> Step
 pub fn heard(c: Clock, message: Message, local: LocalTime) -> Step
     ensures { result ≡ heard_by c message local }
 {
-    if c.state == UNSYNCHRONISED {
-        return synchronise(c, message, local);
-    }
-    if c.state == SYNCHRONISED {
-        return resynchronise(c, message, local);
-    }
-    Step {
-        clock: c,
-        event: STAYS_ISOLATED,
+    match c.state {
+        UNSYNCHRONISED => synchronise(c, message, local),
+        SYNCHRONISED => resynchronise(c, message, local),
+        _ => Step {
+            clock: c,
+            event: Event::StaysIsolated,
+        },
     }
 }

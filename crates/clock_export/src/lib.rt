@@ -4,6 +4,7 @@
 
 ghost use Rattle.std.specs.Prelude.{◌≡◌};
 ghost use Rattle.clock.specs.Clocks.{new_clock};
+ghost use Rattle.clock.specs.Events.{number_of};
 ghost use Rattle.clock.specs.Updates.{heard_by};
 ghost use Rattle.clock.specs.Asking.{factor_at, time_at};
 ghost use Rattle.clock.specs.Reading.{read_by};
@@ -30,7 +31,7 @@ pub extern "C" fn uj_clock_read(bytes: &[u8]) -> PlainReading
 // A message, for the lent clock.
 #[unsafe(no_mangle)]
 pub extern "C" fn uj_clock_message(clock: &mut Clock, message: Message, local: LocalTime) -> u32
-    ensures { (result ≡ (heard_by clock.old message local).event) × (clock.new ≡ (heard_by clock.old message local).clock) }
+    ensures { (result ≡ number_of (heard_by clock.old message local).event) × (clock.new ≡ (heard_by clock.old message local).clock) }
 {
     clock_c::uj_clock_message(clock, message, local)
 }

@@ -3,7 +3,7 @@
 -- result and, of what was lent with `&mut`, any value left: x for `x.now` and `x.old`, x' for `x.new`. No public function has a `requires`, so the fields
 -- speak of all values of the arguments. proofs/Unique.antt proves `Uniqueness` under the same name in snake case. The gate compares each field with its source.
 -- Assumes nothing.
-use Rattle.std.specs.Prelude.{◌≡◌, Bool, List, ◌++◌, ℕ, Option, get_or}
+use Rattle.std.specs.Prelude.{◌≡◌, Bool, List, ◌++◌, ℕ, Option, get_or, Result}
 use Rattle.std.specs.Int.Bits.{bit_xor}
 use Rattle.ground.specs.Numbers.{bytes_at}
 use Rattle.digits.specs.Digits.{picked}
@@ -47,6 +47,7 @@ use Rattle.node.specs.declared.Route.{Route}
 use Rattle.node.specs.declared.Outcome.{Outcome}
 use Rattle.node.specs.declared.PlainOutcome.{PlainOutcome}
 use Rattle.clock.specs.Clocks.{new_clock}
+use Rattle.clock.specs.Events.{number_of}
 use Rattle.clock.specs.Updates.{heard_by}
 use Rattle.clock.specs.Asking.{factor_at, time_at}
 use Rattle.clock.specs.Reading.{read_by}
@@ -55,9 +56,8 @@ use Rattle.clock.specs.declared.Clock as estimator
 use Rattle.clock.specs.declared.Step as step
 use Rattle.clock.specs.declared.Message.{Message}
 use Rattle.clock.specs.declared.LocalTime.{LocalTime}
-use Rattle.clock.specs.declared.Reading.{Reading}
-use Rattle.clock.specs.declared.FactorAsked.{FactorAsked}
-use Rattle.clock.specs.declared.TimeAsked.{TimeAsked}
+use Rattle.clock.specs.declared.RefTime.{RefTime}
+use Rattle.clock.specs.declared.Unreadable.{Unreadable}
 use Rattle.clock.specs.declared.PlainReading.{PlainReading}
 use Rattle.clock.specs.declared.PlainFactor.{PlainFactor}
 use Rattle.clock.specs.declared.PlainTime.{PlainTime}
@@ -352,12 +352,12 @@ pub record Clock : Type 0 where
   -- src/states.rt: a new clock
   pub new_clock : (none : Unit {0}) → Unique (λ (c : Estimator). c ≡ new_clock)
   -- src/layout.rt: a message from its bytes
-  pub read_message : (bytes : List ℕ) → Unique (λ (r : Reading). r ≡ read_by bytes)
+  pub read_message : (bytes : List ℕ) → Unique (λ (r : Result Message Unreadable). r ≡ read_by bytes)
   -- src/updates.rt: the clock after a message
   pub heard : (c : Estimator) (message : Message) (local : LocalTime) → Unique (λ (h : Taken). h ≡ heard_by c message local)
   -- src/asking.rt: the factor and the Reference Time at a moment
-  pub factor : (c : Estimator) (local : LocalTime) → Unique (λ (f : FactorAsked). f ≡ factor_at c local)
-  pub reference_time : (c : Estimator) (local : LocalTime) → Unique (λ (t : TimeAsked). t ≡ time_at c local)
+  pub factor : (c : Estimator) (local : LocalTime) → Unique (λ (f : Option ℕ). f ≡ factor_at c local)
+  pub reference_time : (c : Estimator) (local : LocalTime) → Unique (λ (t : Option RefTime). t ≡ time_at c local)
 
 -- The public functions of `clock_c`.
 pub record ClockC : Type 0 where
@@ -366,7 +366,7 @@ pub record ClockC : Type 0 where
   pub uj_clock_read : (bytes : List ℕ) → Unique (λ (r : PlainReading). r ≡ plain_reading (read_by bytes))
   pub uj_clock_message : (clock : Estimator) (message : Message) (local : LocalTime)
       → Unique₂ (λ (n : ℕ) (clock' : Estimator).
-      (n ≡ (heard_by clock message local).event)
+      (n ≡ number_of (heard_by clock message local).event)
       × (clock' ≡ (heard_by clock message local).clock))
   pub uj_clock_factor : (clock : Estimator) (local : LocalTime) → Unique (λ (p : PlainFactor). p ≡ plain_factor (factor_at clock local))
   pub uj_clock_reference_time : (clock : Estimator) (local : LocalTime) → Unique (λ (p : PlainTime). p ≡ plain_time (time_at clock local))
