@@ -25,9 +25,10 @@ function number(text,    i, n) {
     return n + 0
 }
 
-# The name of a function without its object's number.
+# The name of a function without its object's number, and without the types that it was compiled for, which stand there as a checksum.
 function plain(f) {
     sub(/^[0-9]+\//, "", f)
+    sub(/::<.*/, "", f)
     return f
 }
 

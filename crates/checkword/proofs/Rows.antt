@@ -1,29 +1,21 @@
--- The rows hold what their rule says, at every place: antt computes the rule there and compares. So what digits pick from the rows is what they leave in the
+-- Rows that pass the test hold what their rule says, at every place. So what digits pick from the rows is what they leave in the
 -- register, and that leaves the remainder of the number that the digits write.
 -- Assumes nothing.
 use mathlib.Core.Path.{◌≡◌, refl, sym, ap, ap₂, ◌∙◌}
-use mathlib.Core.List.{List, [], ◌∷◌, ◌++◌}
+use mathlib.Core.List.{List, ◌++◌}
 use Prim.Native.Nat.{ℕ, zero, suc, ◌+◌, ◌*◌, ◌/◌, ◌%◌, ◌^◌, ◌≤◌, ◌<◌}
 use native.Mathlib.Nat.{mul-div_cancel, add-zero, zero-add, add-suc, suc-add, zero-mul, mul_assoc, mod-lt, mod-one, zero-lt-suc, le_of_suc-le-suc, not-suc-le-zero, lt_of_lt_of_le}
 use native.Mathlib.Omega.{arith}
 use lib.Pow.{pow_pos, pow-add, pow_mono, mod-pow-add}
-use lib.ListN.{length, take, drop, get_or, get_or-append}
+use lib.ListN.{get_or, get_or-append}
 use lib.Seq.{get_or-take, get_or-drop}
 use lib.Bits.{bit_xor, xor_lt, xor_shifted}
 use Rattle.digits.specs.Digits.{picked}
-use Rattle.rows48.specs.Rows as rows48
-use Rattle.rows32.specs.Rows as rows32
 use Rattle.checkword.specs.Polynomial.{Generator}
-use Rattle.checkword.specs.Word.{shift}
-use Rattle.checkword.specs.Generators.{generator48, generator32}
+use Rattle.checkword.specs.Rows.{shifts, made, Test}
 use Rattle.checkword.proofs.Xor.{xor_mul}
-use Rattle.checkword.proofs.Shift.{shifts, shifts_add, shifts_lt}
+use Rattle.checkword.proofs.Shift.{shifts_add, shifts_lt}
 use Rattle.checkword.proofs.Remainder.{Same, same_refl, same_eq, same_both, shifts_same}
-
--- what f gives of the n numbers from i on
-abbrev made : (ℕ → ℕ) → ℕ → ℕ → List ℕ
-made f i zero = []
-made f i (suc n) = f i ∷ made f (suc i) n
 
 made_at : (f : ℕ → ℕ) (n i k : ℕ) → k < n → get_or (made f i n) k 0 ≡ f (i + k)
 made_at f zero i k h = absurd (not-suc-le-zero h)
@@ -34,64 +26,35 @@ made_at f (suc n) i (suc k) h = made_at f n (suc i) k (le_of_suc-le-suc h) ∙ a
 abbrev pub Kept : ℕ → ℕ → ℕ → ℕ → List ℕ → ℕ → Type 0
 Kept w g s a rows n = (p d : ℕ) → p < n → d < 64 → get_or rows (p * 64 + d) 0 ≡ shifts w g (a + 6 * p) d * 2 ^ s
 
--- The test of all rows of a width: the first row is what the digits leave, each other row is the row before it after six shifts more.
-module _ (w g s : ℕ) (low high : List ℕ) where
-  record Test : Type 0 where
-    first : take 64 (low ++ high) ≡ made (λ (d : ℕ). shifts w g w d * 2 ^ s) 0 64
-    others : drop 64 (low ++ high) ≡ made (λ (k : ℕ). shifts w g 6 (get_or (low ++ high) k 0 / 2 ^ s) * 2 ^ s) 0 640
-    five : length low ≡ 320
-    rest : drop 320 (low ++ high) ≡ high
+module _ (w g s : ℕ) (low high : List ℕ) (test : Test w g s low high) where
+  all_kept : Kept w g s w (low ++ high) 11
+  all_kept zero d hp hd =
+      let place : 0 * 64 + d ≡ d = omega arith in
+      ap (λ (k : ℕ). get_or (low ++ high) k 0) place ∙ sym (get_or-take 64 (low ++ high) d 0 hd) ∙ ap (λ (l : List ℕ). get_or l d 0) test.first
+      ∙ made_at (λ (n : ℕ). shifts w g w n * 2 ^ s) 64 0 d hd
+      ∙ ap₂ (λ (n m : ℕ). shifts w g n m * 2 ^ s) (sym (add-zero w)) (zero-add d)
+  all_kept (suc p) d hp hd =
+      let place : suc p * 64 + d ≡ 64 + (p * 64 + d) = omega arith in
+      let count : w + 6 * p + 6 ≡ w + 6 * suc p = omega arith in
+      ap (λ (k : ℕ). get_or (low ++ high) k 0) place ∙ sym (get_or-drop 64 (low ++ high) (p * 64 + d) 0)
+      ∙ ap (λ (l : List ℕ). get_or l (p * 64 + d) 0) test.others
+      ∙ made_at (λ (k : ℕ). shifts w g 6 (get_or (low ++ high) k 0 / 2 ^ s) * 2 ^ s) 640 0 (p * 64 + d) (omega arith)
+      ∙ ap (λ (k : ℕ). shifts w g 6 (get_or (low ++ high) k 0 / 2 ^ s) * 2 ^ s) (zero-add (p * 64 + d))
+      ∙ ap (λ (x : ℕ). shifts w g 6 (x / 2 ^ s) * 2 ^ s) (all_kept p d (omega arith) hd)
+      ∙ ap (λ (x : ℕ). shifts w g 6 x * 2 ^ s) (mul-div_cancel (shifts w g (w + 6 * p) d) (pow_pos s))
+      ∙ ap (λ (x : ℕ). x * 2 ^ s) (sym (shifts_add w g (w + 6 * p) 6 d) ∙ ap (λ (n : ℕ). shifts w g n d) count)
 
-  module _ (test : Test) where
-    all_kept : Kept w g s w (low ++ high) 11
-    all_kept zero d hp hd =
-        let place : 0 * 64 + d ≡ d = omega arith in
-        ap (λ (k : ℕ). get_or (low ++ high) k 0) place ∙ sym (get_or-take 64 (low ++ high) d 0 hd) ∙ ap (λ (l : List ℕ). get_or l d 0) test.first
-        ∙ made_at (λ (n : ℕ). shifts w g w n * 2 ^ s) 64 0 d hd
-        ∙ ap₂ (λ (n m : ℕ). shifts w g n m * 2 ^ s) (sym (add-zero w)) (zero-add d)
-    all_kept (suc p) d hp hd =
-        let place : suc p * 64 + d ≡ 64 + (p * 64 + d) = omega arith in
-        let count : w + 6 * p + 6 ≡ w + 6 * suc p = omega arith in
-        ap (λ (k : ℕ). get_or (low ++ high) k 0) place ∙ sym (get_or-drop 64 (low ++ high) (p * 64 + d) 0)
-        ∙ ap (λ (l : List ℕ). get_or l (p * 64 + d) 0) test.others
-        ∙ made_at (λ (k : ℕ). shifts w g 6 (get_or (low ++ high) k 0 / 2 ^ s) * 2 ^ s) 640 0 (p * 64 + d) (omega arith)
-        ∙ ap (λ (k : ℕ). shifts w g 6 (get_or (low ++ high) k 0 / 2 ^ s) * 2 ^ s) (zero-add (p * 64 + d))
-        ∙ ap (λ (x : ℕ). shifts w g 6 (x / 2 ^ s) * 2 ^ s) (all_kept p d (omega arith) hd)
-        ∙ ap (λ (x : ℕ). shifts w g 6 x * 2 ^ s) (mul-div_cancel (shifts w g (w + 6 * p) d) (pow_pos s))
-        ∙ ap (λ (x : ℕ). x * 2 ^ s) (sym (shifts_add w g (w + 6 * p) 6 d) ∙ ap (λ (n : ℕ). shifts w g n d) count)
+  pub low_kept : Kept w g s w low 5
+  low_kept p d hp hd =
+      sym (get_or-append low high 0 (p * 64 + d) (omega (arith, test.five))) ∙ all_kept p d (omega arith) hd
 
-    low_kept : Kept w g s w low 5
-    low_kept p d hp hd =
-        sym (get_or-append low high 0 (p * 64 + d) (omega (arith, test.five))) ∙ all_kept p d (omega arith) hd
-
-    high_kept : Kept w g s (w + 30) high 6
-    high_kept p d hp hd =
-        let place : 320 + (p * 64 + d) ≡ (5 + p) * 64 + d = omega arith in
-        let count : w + 6 * (5 + p) ≡ w + 30 + 6 * p = omega arith in
-        ap (λ (l : List ℕ). get_or l (p * 64 + d) 0) (sym test.rest) ∙ get_or-drop 320 (low ++ high) (p * 64 + d) 0
-        ∙ ap (λ (k : ℕ). get_or (low ++ high) k 0) place ∙ all_kept (5 + p) d (omega arith) hd
-        ∙ ap (λ (n : ℕ). shifts w g n d * 2 ^ s) count
-
--- antt computes the test of each width
-test48 : Test 48 generator48 16 rows48.low rows48.high
-unfolding shift generator48
-test48 = record { first = refl; others = refl; five = refl; rest = refl }
-
-test32 : Test 32 generator32 32 rows32.low rows32.high
-unfolding shift generator32
-test32 = record { first = refl; others = refl; five = refl; rest = refl }
-
-pub low48 : Kept 48 generator48 16 48 rows48.low 5
-low48 = low_kept 48 generator48 16 rows48.low rows48.high test48
-
-pub high48 : Kept 48 generator48 16 78 rows48.high 6
-high48 = high_kept 48 generator48 16 rows48.low rows48.high test48
-
-pub low32 : Kept 32 generator32 32 32 rows32.low 5
-low32 = low_kept 32 generator32 32 rows32.low rows32.high test32
-
-pub high32 : Kept 32 generator32 32 62 rows32.high 6
-high32 = high_kept 32 generator32 32 rows32.low rows32.high test32
+  pub high_kept : Kept w g s (w + 30) high 6
+  high_kept p d hp hd =
+      let place : 320 + (p * 64 + d) ≡ (5 + p) * 64 + d = omega arith in
+      let count : w + 6 * (5 + p) ≡ w + 30 + 6 * p = omega arith in
+      ap (λ (l : List ℕ). get_or l (p * 64 + d) 0) (sym test.rest) ∙ get_or-drop 320 (low ++ high) (p * 64 + d) 0
+      ∙ ap (λ (k : ℕ). get_or (low ++ high) k 0) place ∙ all_kept (5 + p) d (omega arith) hd
+      ∙ ap (λ (n : ℕ). shifts w g n d * 2 ^ s) count
 
 -- what the n lowest digits of v leave, each moved up by a bits more
 abbrev pub leaves : ℕ → ℕ → ℕ → ℕ → ℕ → ℕ

@@ -9,12 +9,8 @@ use lib.Pow.{pow_pos}
 use lib.Bits.{bit_xor, xor_shr, xor_mod, xor_self, xor_zero_r}
 use Rattle.checkword.specs.Polynomial.{Generator}
 use Rattle.checkword.specs.Word.{fallen, shift}
+pub use Rattle.checkword.specs.Rows.{shifts}
 use Rattle.checkword.proofs.Xor.{xor_swap, xor_cancel_r, xor_mul}
-
--- n shifts
-abbrev pub shifts : ℕ → ℕ → ℕ → ℕ → ℕ
-shifts w g zero r = r
-shifts w g (suc n) r = shifts w g n (shift w g r)
 
 fallen_lin : (g c d : ℕ) → c < 2 → d < 2 → fallen g (bit_xor c d) ≡ bit_xor (fallen g c) (fallen g d)
 fallen_lin g zero d hc hd = refl

@@ -1,7 +1,7 @@
 -- Two results that meet a promise are equal: a promise says what each part equals, and two things that equal a third are equal.
 -- Assumes nothing.
 use mathlib.Core.Path.{◌≡◌, sym, ◌∙◌}
-use Rattle.demands.specs.Unique.{Ground, Rows48, Rows32, Checkword, Telegram, Writers, Checking, Link, LinkC, Firmware, Node, NodeC, Clock, ClockC, Uniqueness}
+use Rattle.demands.specs.Unique.{Ground, Digits, Checkword, Telegram, Writers, Checking, Link, LinkC, Firmware, Node, NodeC, Clock, ClockC, Uniqueness}
 
 -- A promise that is one equation, two, three.
 unique : {A : Type 0} {x : A} (r s : A) → r ≡ x → s ≡ x → r ≡ s
@@ -21,11 +21,8 @@ ground =
       bytes_at = λ N t at. unique;
     }
 
-rows48 : Rows48
-rows48 = record { low = λ v. unique; high = λ y v. unique }
-
-rows32 : Rows32
-rows32 = record { low = λ v. unique; high = λ y v. unique }
+digits : Digits
+digits = record { low = λ R v. unique; high = λ R y v. unique }
 
 checkword : Checkword
 checkword =
@@ -184,8 +181,7 @@ pub uniqueness : Uniqueness
 uniqueness =
     record {
       ground = ground;
-      rows48 = rows48;
-      rows32 = rows32;
+      digits = digits;
       checkword = checkword;
       telegram = telegram;
       writers = writers;

@@ -7,8 +7,6 @@ use Rattle.std.specs.Prelude.{◌≡◌, Bool, List, ◌++◌, ℕ, Option, get_
 use Rattle.std.specs.Int.Bits.{bit_xor}
 use Rattle.ground.specs.Numbers.{bytes_at}
 use Rattle.digits.specs.Digits.{picked}
-use Rattle.rows48.specs.Rows as rows48
-use Rattle.rows32.specs.Rows as rows32
 use Rattle.checkword.specs.Generators.{generator48, generator32}
 use Rattle.checkword.specs.Word.{word}
 use Rattle.telegram.specs.Levels.{level_of, top_bits, word_length, added}
@@ -80,16 +78,15 @@ pub record Ground : Type 0 where
   pub byte : (t : List ℕ) (at : ℕ) → Unique (λ (x : ℕ). x ≡ get_or t at 0)
   pub bytes_at : (N : ℕ) (t : List ℕ) (at : ℕ) → Unique (λ (x : List ℕ). x ≡ bytes_at N at t)
 
--- The public functions of `rows48` and `rows32`, which only `checkword` calls.
-pub record Rows48 : Type 0 where
-  -- src/lib.rt: what the low and the high digits of a number leave
-  pub low : (v : ℕ) → Unique (λ (r : ℕ). r ≡ picked rows48.low 5 v)
-  pub high : (y v : ℕ) → Unique (λ (r : ℕ). r ≡ bit_xor y (picked rows48.high 6 v))
+-- The public functions of `digits`, which only `checkword` calls: over any rows, as those of both widths.
+pub record RowsOf : Type 0 where
+  pub low : List ℕ
+  pub high : List ℕ
 
-pub record Rows32 : Type 0 where
-  -- src/lib.rt: the same at the other width
-  pub low : (v : ℕ) → Unique (λ (r : ℕ). r ≡ picked rows32.low 5 v)
-  pub high : (y v : ℕ) → Unique (λ (r : ℕ). r ≡ bit_xor y (picked rows32.high 6 v))
+pub record Digits : Type 0 where
+  -- src/lib.rt: what the low and the high digits of a number leave
+  pub low : (R : RowsOf) (v : ℕ) → Unique (λ (r : ℕ). r ≡ picked R.low 5 v)
+  pub high : (R : RowsOf) (y v : ℕ) → Unique (λ (r : ℕ). r ≡ bit_xor y (picked R.high 6 v))
 
 -- The public functions of `checkword`.
 pub record Checkword : Type 0 where
@@ -374,8 +371,7 @@ pub record ClockC : Type 0 where
 -- Every public function of the library.
 pub record Uniqueness : Type 0 where
   pub ground : Ground
-  pub rows48 : Rows48
-  pub rows32 : Rows32
+  pub digits : Digits
   pub checkword : Checkword
   pub telegram : Telegram
   pub writers : Writers

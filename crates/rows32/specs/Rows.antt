@@ -1,5 +1,5 @@
 -- The rows of the check word at SL 2, of 64 numbers each: place d of row p is what the digit d of six bits, with p digits behind it, leaves in the register
--- of 32 bits, which stands at the top of 64. This need not be believed: `low32` and `high32` in checkword/proofs/Rows.antt prove it.
+-- of 32 bits, which stands at the top of 64. This need not be believed: `test32` in checkword/specs/Rows.antt proves it.
 -- Assumes nothing.
 use Rattle.std.specs.Prelude.{List, [], ◌∷◌, ℕ}
 

@@ -1,5 +1,5 @@
 -- The rows of the check word at SL 4, of 64 numbers each: place d of row p is what the digit d of six bits, with p digits behind it, leaves in the register
--- of 48 bits, which stands at the top of 64. This need not be believed: `low48` and `high48` in checkword/proofs/Rows.antt prove it.
+-- of 48 bits, which stands at the top of 64. This need not be believed: `test48` in checkword/specs/Rows.antt proves it.
 -- Assumes nothing.
 use Rattle.std.specs.Prelude.{List, [], ◌∷◌, ℕ}
 
