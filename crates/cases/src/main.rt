@@ -13,39 +13,26 @@ mod named;
 mod refusals;
 mod rules;
 mod run;
-mod show;
 mod talk;
 
 use std::io;
-use std::io::Write;
-
-fn at_level(to: &mut impl Write, level: u32) -> io::Result<()> {
-    shown::heading(
-        to,
-        b"Set-up and talk, random numbers of 5.3.1.6, level ",
-        level,
-    )?;
-    talk::conversation(to, level, 0x0123_4567, 0x89AB_CDEF)?;
-    shown::heading(
-        to,
-        b"Set-up and talk, both random numbers FFFFFFFFh, level ",
-        level,
-    )?;
-    talk::conversation(to, level, 0xFFFF_FFFF, 0xFFFF_FFFF)?;
-    shown::heading(to, b"Idle times named and not, level ", level)?;
-    named::idle_times(to, level)?;
-    shown::heading(to, b"Limits of waits and watch, level ", level)?;
-    limits::limits(to, level)?;
-    shown::heading(to, b"Rules that are easy to miss, level ", level)?;
-    rules::rules(to, level)?;
-    shown::heading(to, b"Refusals, level ", level)?;
-    refusals::refusals(to, level)?;
-    shown::heading(to, b"Cells of 5.5.1.5, level ", level)?;
-    cells::cells(to, level)
-}
 
 fn main(rt: HostRuntime) -> io::Result<()> {
-    let mut page = io::writer(&rt);
-    at_level(&mut page, 4)?;
-    at_level(&mut page, 2)
+    for level in [4, 2] {
+        println!(rt; "Set-up and talk, random numbers of 5.3.1.6, level {level}")?;
+        talk::conversation(&rt, level, 0x0123_4567, 0x89AB_CDEF)?;
+        println!(rt; "Set-up and talk, both random numbers FFFFFFFFh, level {level}")?;
+        talk::conversation(&rt, level, 0xFFFF_FFFF, 0xFFFF_FFFF)?;
+        println!(rt; "Idle times named and not, level {level}")?;
+        named::idle_times(&rt, level)?;
+        println!(rt; "Limits of waits and watch, level {level}")?;
+        limits::limits(&rt, level)?;
+        println!(rt; "Rules that are easy to miss, level {level}")?;
+        rules::rules(&rt, level)?;
+        println!(rt; "Refusals, level {level}")?;
+        refusals::refusals(&rt, level)?;
+        println!(rt; "Cells of 5.5.1.5, level {level}")?;
+        cells::cells(&rt, level)?;
+    }
+    Ok(())
 }

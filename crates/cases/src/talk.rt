@@ -1,144 +1,51 @@
 // A whole set-up and a talk, both sides run by the library: each telegram that one writes is what the other takes.
-use crate::made::{node_1, node_8};
-use crate::run::{Side, closes, opens, sends, takes, takes_lent, ticks};
+use crate::made::closed;
+use crate::run::Side;
 use std::io;
-use std::io::Write;
 
 pub(crate) fn conversation(
-    to: &mut impl Write,
+    rt: &impl Print,
     level: u32,
     random_8: u32,
     random_1: u32,
 ) -> io::Result<()> {
-    let mut there = [0u8; 244];
-    let mut back = [0u8; 244];
-    let idle = link::idle_time_by(1, 500);
-    let asking = opens(
-        to,
-        b"8 opens",
-        node_8(level, random_8),
-        1000,
-        idle,
-        &mut there,
-    )?;
-    let waiting = node_1(level, random_1);
-    let asked = takes_lent(
-        to,
-        b"1 confirms",
-        waiting,
-        1100,
-        idle,
-        b"",
-        &there,
-        asking.length,
-        &mut back,
-    )?;
-    let proving = takes(
-        to,
-        b"8 authenticates",
-        asking,
-        1200,
-        &back,
-        asked.length,
-        &mut there,
-    )?;
-    let called = takes(
-        to,
-        b"1 acknowledges",
-        asked,
+    let caller = closed(8, 1, level, random_8);
+    let called = closed(1, 8, level, random_1);
+    let (caller, request) = caller.opens(rt, "8 opens", 1000, Some(500))?;
+    let (called, confirm) = called.takes(rt, "1 confirms", 1100, request.as_slice())?;
+    let (caller, authentication) = caller.takes(rt, "8 authenticates", 1200, confirm.as_slice())?;
+    let (called, acknowledgement) = called.takes(
+        rt,
+        "1 acknowledges",
         1300,
-        &there,
-        proving.length,
-        &mut back,
+        authentication.as_slice(),
     )?;
-    let caller = takes(
-        to,
-        b"8 is open",
-        proving,
-        1400,
-        &back,
-        called.length,
-        &mut there,
-    )?;
-    data(to, caller, called)
+    let (caller, _) = caller.takes(rt, "8 is open", 1400, acknowledgement.as_slice())?;
+    data(rt, caller, called)
 }
 
 // Data both ways.
-fn data(to: &mut impl Write, caller: Side, called: Side) -> io::Result<()> {
-    let mut there = [0u8; 244];
-    let mut back = [0u8; 244];
-    let sent = sends(
-        to,
-        b"8 sends data",
-        caller,
-        1500,
-        0x09,
-        b"there",
-        &mut there,
-    )?;
-    let taken = takes(
-        to,
-        b"1 takes data",
-        called,
-        1510,
-        &there,
-        sent.length,
-        &mut back,
-    )?;
-    let answering = sends(to, b"1 sends data", taken, 1600, 0x3F, b"", &mut back)?;
-    let answered = takes(
-        to,
-        b"8 takes data",
-        sent,
-        1610,
-        &back,
-        answering.length,
-        &mut there,
-    )?;
-    idle(to, answered, answering)
+fn data(rt: &impl Print, caller: Side, called: Side) -> io::Result<()> {
+    let (caller, data) = caller.sends(rt, "8 sends data", 1500, 0x09, b"there")?;
+    let (called, _) = called.takes(rt, "1 takes data", 1510, data.as_slice())?;
+    let (called, data) = called.sends(rt, "1 sends data", 1600, 0x3F, b"")?;
+    let (caller, _) = caller.takes(rt, "8 takes data", 1610, data.as_slice())?;
+    idle(rt, caller, called)
 }
 
 // Idle both ways, by a tick.
-fn idle(to: &mut impl Write, caller: Side, called: Side) -> io::Result<()> {
-    let mut there = [0u8; 244];
-    let mut back = [0u8; 244];
-    let sent = ticks(to, b"8 sends idle", caller, 1750, &mut there)?;
-    let taken = takes(
-        to,
-        b"1 takes idle",
-        called,
-        1760,
-        &there,
-        sent.length,
-        &mut back,
-    )?;
-    let answering = ticks(to, b"1 sends idle", taken, 1850, &mut back)?;
-    let answered = takes(
-        to,
-        b"8 takes idle",
-        sent,
-        1860,
-        &back,
-        answering.length,
-        &mut there,
-    )?;
-    ending(to, answered, answering, 1)?;
-    ending(to, answered, answering, 0)
+fn idle(rt: &impl Print, caller: Side, called: Side) -> io::Result<()> {
+    let (caller, idle) = caller.ticks(rt, "8 sends idle", 1750)?;
+    let (called, _) = called.takes(rt, "1 takes idle", 1760, idle.as_slice())?;
+    let (called, idle) = called.ticks(rt, "1 sends idle", 1850)?;
+    let (caller, _) = caller.takes(rt, "8 takes idle", 1860, idle.as_slice())?;
+    ending(rt, caller, called, 1)?;
+    ending(rt, caller, called, 0)
 }
 
 // Node 8 closes; with type 0 both records are closed finally.
-fn ending(to: &mut impl Write, caller: Side, called: Side, new_setup: u32) -> io::Result<()> {
-    let mut there = [0u8; 244];
-    let mut back = [0u8; 244];
-    let closed = closes(to, b"8 closes", caller, new_setup, 0, &mut there)?;
-    takes(
-        to,
-        b"1 is closed",
-        called,
-        1910,
-        &there,
-        closed.length,
-        &mut back,
-    )?;
+fn ending(rt: &impl Print, caller: Side, called: Side, new_setup: u32) -> io::Result<()> {
+    let (_, disconnect) = caller.closes(rt, "8 closes", new_setup, 0)?;
+    called.takes(rt, "1 is closed", 1910, disconnect.as_slice())?;
     Ok(())
 }

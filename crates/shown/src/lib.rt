@@ -1,83 +1,116 @@
-// What the programs of cases print, word by word: answers, events, records and the bytes of a short telegram. It is no
-// part of the library.
+// What the programs print, word by word: runs of bytes, telegrams, answers, events and records. It is no part of the
+// library.
 #![tactic(auto)]
 
-use link::{Answer, Event, Happened, Record};
-use std::io;
-use std::io::Write;
+use std::fmt;
+use telegram::{LONGEST, Written};
 
-pub fn words(to: &mut impl Write, text: &[u8]) -> io::Result<()> {
-    to.write_all(text)
-}
+// A run of bytes, in hexadecimal.
+#[derive(Clone, Copy)]
+pub struct Hex<'a>(pub &'a [u8]);
 
-pub fn number(to: &mut impl Write, name: &[u8], n: u32) -> io::Result<()> {
-    words(to, name)?;
-    write!(to, "{n}")
-}
-
-pub fn heading(to: &mut impl Write, name: &[u8], level: u32) -> io::Result<()> {
-    number(to, name, level)?;
-    words(to, b"\n")
-}
-
-fn bytes(to: &mut impl Write, run: &[u8]) -> io::Result<()> {
-    for byte in run {
-        write!(to, "{byte:02x}")?;
+impl fmt::Display for Hex<'_> {
+    fn fmt<W: fmt::Write>(&self, f: &mut fmt::Formatter<W>) -> fmt::Result {
+        for byte in self.0 {
+            write!(f, "{byte:02x}")?;
+        }
+        Ok(())
     }
-    Ok(())
 }
 
-fn hex(to: &mut impl Write, name: &[u8], n: u32) -> io::Result<()> {
-    words(to, name)?;
-    write!(to, "{n:08x}")
+// A telegram: the front of the buffer that it was written into.
+#[derive(Clone, Copy)]
+pub struct Telegram {
+    pub bytes: [u8; LONGEST],
+    pub length: u32,
 }
 
-// An answer: its number, the telegram written and its length.
-pub fn answered(to: &mut impl Write, answer: Answer) -> io::Result<()> {
-    number(to, b": answer ", answer.number)?;
-    number(to, b" telegram ", answer.telegram)?;
-    number(to, b" of ", answer.length)
-}
-
-// The event, and the values that it has.
-pub fn happened(to: &mut impl Write, event: Event) -> io::Result<()> {
-    let h = Happened::from(event);
-    number(to, b" event ", h.event)?;
-    if h.event == 2 {
-        number(to, b" command ", h.command)?;
-        number(to, b" start ", h.start)?;
-        number(to, b" count ", h.count)?;
+impl Telegram {
+    // What a writer writes.
+    pub fn written<F: FnOnce(&mut [u8]) -> Written>(writer: F) -> Telegram
+        requires { F.IsAlwaysCallable writer }
+    {
+        let mut bytes = [0; LONGEST];
+        let written = writer(&mut bytes);
+        Telegram {
+            bytes,
+            length: written.length,
+        }
     }
-    if h.event == 3 {
-        number(to, b" reason ", h.reason)?;
-        number(to, b" last ", h.last)?;
-    }
-    Ok(())
-}
 
-// What a record is.
-pub fn left(to: &mut impl Write, record: Record) -> io::Result<()> {
-    number(to, b" phase ", record.phase)?;
-    hex(to, b" sending ", record.sending)?;
-    hex(to, b" expected ", record.expected)?;
-    number(to, b" declared ", record.declared)?;
-    number(to, b" watched ", record.watched)
+    pub fn as_slice(&self) -> &[u8] {
+        let length = self.length as usize;
+        &self.bytes[..length.min(LONGEST)]
+    }
 }
 
 // The longest telegram whose bytes are printed.
 const SHORT: usize = 30;
 
-// The bytes of a short telegram.
-pub fn short(to: &mut impl Write, length: usize, out: &[u8]) -> io::Result<()> {
-    if length == 0 {
-        return Ok(());
+// The bytes of a short telegram; of a longer one, or where none was written, nothing.
+impl fmt::Display for Telegram {
+    fn fmt<W: fmt::Write>(&self, f: &mut fmt::Formatter<W>) -> fmt::Result {
+        let telegram = self.as_slice();
+        if telegram.is_empty() || SHORT < telegram.len() {
+            return Ok(());
+        }
+        write!(f, " bytes {}", Hex(telegram))
     }
-    if SHORT < length {
-        return Ok(());
+}
+
+// An answer: its number, the telegram written and its length.
+#[derive(Clone, Copy)]
+pub struct Answer(pub link::Answer);
+
+impl fmt::Display for Answer {
+    fn fmt<W: fmt::Write>(&self, f: &mut fmt::Formatter<W>) -> fmt::Result {
+        let link::Answer {
+            number,
+            telegram,
+            length,
+        } = self.0;
+        write!(f, "answer {number} telegram {telegram} of {length}")
     }
-    if out.len() < length {
-        return Ok(());
+}
+
+// An event by its number, and the values that it has.
+#[derive(Clone, Copy)]
+pub struct Event(pub link::Event);
+
+impl fmt::Display for Event {
+    fn fmt<W: fmt::Write>(&self, f: &mut fmt::Formatter<W>) -> fmt::Result {
+        match self.0 {
+            link::Event::Nothing => f.write_str("event 0"),
+            link::Event::Opened => f.write_str("event 1"),
+            link::Event::Data {
+                command,
+                start,
+                count,
+            } => { write!(f, "event 2 command {command} start {start} count {count}") }
+            link::Event::Closed { reason, last } => {
+                write!(f, "event 3 reason {reason} last {}", last as u32)
+            }
+        }
     }
-    words(to, b" bytes ")?;
-    bytes(to, &out[..length])
+}
+
+// What a record is.
+#[derive(Clone, Copy)]
+pub struct Record(pub link::Record);
+
+impl fmt::Display for Record {
+    fn fmt<W: fmt::Write>(&self, f: &mut fmt::Formatter<W>) -> fmt::Result {
+        let link::Record {
+            phase,
+            sending,
+            expected,
+            declared,
+            watched,
+            ..
+        } = self.0;
+        write!(
+            f,
+            "phase {phase} sending {sending:08x} expected {expected:08x} declared {declared} watched {watched}"
+        )
+    }
 }

@@ -6,33 +6,17 @@
 #![tactic(auto)]
 
 mod cards;
-mod owned;
 mod refusals;
-mod show;
 mod station;
 
-use link::Record;
-use node::Outcome;
 use std::io;
-use std::io::Write;
-
-// What a call over a table of two records left: the records, and the outcome.
-#[derive(Clone, Copy)]
-pub struct Left {
-    pub first: Record,
-    pub second: Record,
-    pub outcome: Outcome,
-}
-
-fn at_level(to: &mut impl Write, level: u32) -> io::Result<()> {
-    shown::heading(to, b"A computer and two modules, level ", level)?;
-    cards::cards(to, level)?;
-    shown::heading(to, b"Refusals of the calls, level ", level)?;
-    refusals::refusals(to, level)
-}
 
 fn main(rt: HostRuntime) -> io::Result<()> {
-    let mut page = io::writer(&rt);
-    at_level(&mut page, 4)?;
-    at_level(&mut page, 2)
+    for level in [4, 2] {
+        println!(rt; "A computer and two modules, level {level}")?;
+        cards::cards(&rt, level)?;
+        println!(rt; "Refusals of the calls, level {level}")?;
+        refusals::refusals(&rt, level)?;
+    }
+    Ok(())
 }

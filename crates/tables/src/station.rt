@@ -1,154 +1,146 @@
 // A node of two connections, and its calls, each run and shown as a line.
-use crate::Left;
-use crate::owned::{close_on, open_on, received_on, send_on, tick_on};
-use crate::show::{call_line, net_line};
 use link::Record;
-use node::{Head, Route};
+use node::{Head, Outcome, Route};
+use shown::Telegram;
 use std::io;
-use std::io::Write;
+use telegram::LONGEST;
 
-// The head, the two records of the table, the random number that it opens and confirms with, and the length of the
-// telegram that its last call wrote.
+// The head, the table, the random number that it opens and confirms with, and how long the buffer is that its calls
+// write into.
 #[derive(Clone, Copy)]
 pub(crate) struct Station {
     pub head: Head,
-    pub first: Record,
-    pub second: Record,
+    pub table: [Record; 2],
     pub random: u32,
-    pub length: u32,
+    pub room: usize,
 }
 
-// Shows a call, and keeps what it leaves.
-fn shown(
-    to: &mut impl Write,
-    name: &[u8],
-    random: u32,
-    call: Left,
-    out: &[u8],
-) -> io::Result<Station> {
-    call_line(to, name, call, out)?;
-    let o = call.outcome;
-    let answer = o.answer;
-    let head = o.head;
-    let first = call.first;
-    let second = call.second;
-    Ok(Station {
-        head,
-        first,
-        second,
-        random,
-        length: answer.length,
-    })
-}
-
-pub(crate) fn opens(
-    to: &mut impl Write,
-    name: &[u8],
-    s: Station,
-    time: u64,
-    place: usize,
-    net: &[u8],
-    out: &mut [u8],
-) -> io::Result<Station> {
-    let idle = link::idle_time_by(1, 500);
-    let first = s.first;
-    let second = s.second;
-    let head = s.head;
-    let call = open_on(first, second, head, time, place, s.random, idle, net, out);
-    shown(to, name, s.random, call, out)
-}
-
-pub(crate) fn closes(
-    to: &mut impl Write,
-    name: &[u8],
-    s: Station,
-    time: u64,
-    place: usize,
-    new_setup: u32,
-    out: &mut [u8],
-) -> io::Result<Station> {
-    let first = s.first;
-    let second = s.second;
-    let head = s.head;
-    let call = close_on(first, second, head, time, place, new_setup, 0, b"", out);
-    shown(to, name, s.random, call, out)
-}
-
-pub(crate) fn sends(
-    to: &mut impl Write,
-    name: &[u8],
-    s: Station,
-    time: u64,
-    place: usize,
-    command: u32,
-    net: &[u8],
-    out: &mut [u8],
-) -> io::Result<Station> {
-    let first = s.first;
-    let second = s.second;
-    let head = s.head;
-    let call = send_on(first, second, head, time, place, command, net, out);
-    shown(to, name, s.random, call, out)
-}
-
-pub(crate) fn ticks(
-    to: &mut impl Write,
-    name: &[u8],
-    s: Station,
-    time: u64,
-    place: usize,
-    out: &mut [u8],
-) -> io::Result<Station> {
-    let first = s.first;
-    let second = s.second;
-    let head = s.head;
-    let call = tick_on(first, second, head, time, place, out);
-    shown(to, name, s.random, call, out)
-}
-
-// Takes a telegram that came from this sender, with SAP 3 on both sides, and shows the net data that it hands on.
-fn takes_telegram(
-    to: &mut impl Write,
-    name: &[u8],
-    s: Station,
-    time: u64,
-    sender: u32,
-    telegram: &[u8],
-    out: &mut [u8],
-) -> io::Result<Station> {
-    let idle = link::idle_time_by(1, 500);
-    let route = Route {
-        sender,
-        destination_sap: 3,
-        source_sap: 3,
-    };
-    let first = s.first;
-    let second = s.second;
-    let head = s.head;
-    let call = received_on(
-        first, second, head, time, route, s.random, idle, telegram, b"", out,
-    );
-    let next = shown(to, name, s.random, call, out)?;
-    let o = call.outcome;
-    let event = o.event;
-    net_line(to, node::net_data(telegram, event))?;
-    Ok(next)
-}
-
-// The same of the front of a run.
-pub(crate) fn takes(
-    to: &mut impl Write,
-    name: &[u8],
-    s: Station,
-    time: u64,
-    sender: u32,
-    run: &[u8],
-    length: u32,
-    out: &mut [u8],
-) -> io::Result<Station> {
-    let n = length as usize;
-    if run.len() < n {
-        return Ok(s);
+impl Station {
+    // Runs a call and shows it, and the net data that it hands on of the telegram that it is given. What the call
+    // leaves, and the telegram that it wrote.
+    fn calls<F: FnOnce(&mut [Record], &mut [u8]) -> Outcome>(
+        self,
+        rt: &impl Print,
+        name: &str,
+        given: &[u8],
+        call: F,
+    ) -> io::Result<(Station, Telegram)>
+        requires { F.IsAlwaysCallable call }
+    {
+        let mut table = self.table;
+        let mut bytes = [0; LONGEST];
+        let Outcome {
+            head,
+            answer,
+            event,
+        } = call(&mut table, &mut bytes[..self.room.min(LONGEST)]);
+        let telegram = Telegram {
+            bytes,
+            length: answer.length,
+        };
+        print!(rt;
+            "{name}: {} {} latest {}",
+            shown::Answer(answer),
+            shown::Event(event),
+            head.latest
+        )?;
+        let first = shown::Record(table[0]);
+        let second = shown::Record(table[1]);
+        println!(rt; "; first {first}; second {second}{telegram}")?;
+        let net = node::net_data(given, event);
+        if !net.is_empty() {
+            println!(rt; "  net data {}", net.escape_ascii())?;
+        }
+        Ok((
+            Station {
+                head,
+                table,
+                ..self
+            },
+            telegram,
+        ))
     }
-    takes_telegram(to, name, s, time, sender, &run[..n], out)
+
+    // Opens the connection at a place, with an idle time of 500 named.
+    pub(crate) fn opens(
+        self,
+        rt: &impl Print,
+        name: &str,
+        time: u64,
+        place: usize,
+    ) -> io::Result<(Station, Telegram)> {
+        let idle = Some(500);
+        self.calls(rt, name, b"", |table, out| {
+            node::open(table, self.head, time, place, self.random, idle, b"", out)
+        })
+    }
+
+    pub(crate) fn closes(
+        self,
+        rt: &impl Print,
+        name: &str,
+        time: u64,
+        place: usize,
+        new_setup: u32,
+    ) -> io::Result<(Station, Telegram)> {
+        self.calls(rt, name, b"", |table, out| {
+            node::close(table, self.head, time, place, new_setup, 0, b"", out)
+        })
+    }
+
+    pub(crate) fn sends(
+        self,
+        rt: &impl Print,
+        name: &str,
+        time: u64,
+        place: usize,
+        command: u32,
+        net: &[u8],
+    ) -> io::Result<(Station, Telegram)> {
+        self.calls(rt, name, b"", |table, out| {
+            node::send(table, self.head, time, place, command, net, out)
+        })
+    }
+
+    pub(crate) fn ticks(
+        self,
+        rt: &impl Print,
+        name: &str,
+        time: u64,
+        place: usize,
+    ) -> io::Result<(Station, Telegram)> {
+        self.calls(rt, name, b"", |table, out| {
+            node::tick(table, self.head, time, place, out)
+        })
+    }
+
+    // Takes a telegram that came from this sender, with SAP 3 on both sides.
+    pub(crate) fn takes(
+        self,
+        rt: &impl Print,
+        name: &str,
+        time: u64,
+        sender: u32,
+        telegram: &[u8],
+    ) -> io::Result<(Station, Telegram)> {
+        let route = Route {
+            sender,
+            destination_sap: 3,
+            source_sap: 3,
+        };
+        let idle = Some(500);
+        self.calls(rt, name, telegram, |table, out| {
+            node::received(
+                table,
+                self.head,
+                time,
+                route,
+                self.random,
+                idle,
+                telegram,
+                b"",
+                out,
+            )
+        })
+    }
 }
