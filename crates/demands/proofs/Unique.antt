@@ -165,6 +165,10 @@ clock =
       heard = λ c message local. unique;
       factor = λ c local. unique;
       reference_time = λ c local. unique;
+      u32_from_event = λ event. unique;
+      plain_reading_from_result_message_unreadable = λ read. unique;
+      plain_factor_from_option_u32 = λ factor. unique;
+      plain_time_from_option_ref_time = λ time. unique;
     }
 
 clock_c : ClockC

@@ -52,6 +52,7 @@ use Rattle.clock.specs.Reading.{read_by}
 use Rattle.clock.specs.Plain.{plain_reading, plain_factor, plain_time}
 use Rattle.clock.specs.declared.Clock as estimator
 use Rattle.clock.specs.declared.Step as step
+use Rattle.clock.specs.declared.events.Event as happening
 use Rattle.clock.specs.declared.Message.{Message}
 use Rattle.clock.specs.declared.LocalTime.{LocalTime}
 use Rattle.clock.specs.declared.RefTime.{RefTime}
@@ -337,12 +338,15 @@ pub record NodeC : Type 0 where
       × ((table' ≡ (called (Tick place) head table time out).table)
       × (out' ≡ (called (Tick place) head table time out).out)))
 
--- What `clock` keeps, and what a message leaves, under names of their own.
+-- What `clock` keeps, what a message leaves and what it did, under names of their own.
 abbrev pub Estimator : Type 0
 Estimator = estimator.Clock
 
 abbrev pub Taken : Type 0
 Taken = step.Step
+
+abbrev pub Happening : Type 0
+Happening = happening.Event
 
 -- The public functions of `clock`.
 pub record Clock : Type 0 where
@@ -355,6 +359,11 @@ pub record Clock : Type 0 where
   -- src/asking.rt: the factor and the Reference Time at a moment
   pub factor : (c : Estimator) (local : LocalTime) → Unique (λ (f : Option ℕ). f ≡ factor_at c local)
   pub reference_time : (c : Estimator) (local : LocalTime) → Unique (λ (t : Option RefTime). t ≡ time_at c local)
+  -- src/events.rt, src/plain.rt: what C is told in plain numbers
+  pub u32_from_event : (event : Happening) → Unique (λ (n : ℕ). n ≡ number_of event)
+  pub plain_reading_from_result_message_unreadable : (read : Result Message Unreadable) → Unique (λ (p : PlainReading). p ≡ plain_reading read)
+  pub plain_factor_from_option_u32 : (factor : Option ℕ) → Unique (λ (p : PlainFactor). p ≡ plain_factor factor)
+  pub plain_time_from_option_ref_time : (time : Option RefTime) → Unique (λ (p : PlainTime). p ≡ plain_time time)
 
 -- The public functions of `clock_c`.
 pub record ClockC : Type 0 where
