@@ -1,4 +1,4 @@
--- What the rows of a width hold. Nobody has to believe it: no promise rests on it but by the code, and antt computes it for every entry.
+-- What the rows of a width hold, computed for every entry. The code rests on it, and no promise does.
 -- Assumes nothing.
 use Rattle.std.specs.Prelude.{◌≡◌, refl, List, [], ◌∷◌, ◌++◌, ℕ, zero, suc, ◌+◌, ◌*◌, ◌/◌, ◌^◌, length, take, drop, get_or}
 use Rattle.rows48.specs.Rows as rows48
@@ -17,7 +17,8 @@ abbrev pub made : (ℕ → ℕ) → ℕ → ℕ → List ℕ
 made f i zero = []
 made f i (suc n) = f i ∷ made f (suc i) n
 
--- The test of all rows of a width, with s bits below the register, which stands at the top of 64: the first row is what the digits leave, each other row is the row before it after six shifts more.
+-- The test of all rows of a width, whose register stands above s bits at the top of 64: the first row is what the digits leave, each other row is the row
+-- before it after six shifts more.
 pub record Test (w g s : ℕ) (low high : List ℕ) : Type 0 where
   pub good : Generator w g
   pub room : w + s ≡ 64

@@ -1,4 +1,4 @@
--- What a turn of the loop over a run takes. No promise rests on it but by the code.
+-- What a turn of the loop over a run takes. The code rests on it, and no promise does.
 -- Assumes nothing.
 use Rattle.std.specs.Prelude.{◌≡◌, List, ℕ, ◌*◌, ◌/◌, ◌%◌, ◌^◌, ◌≤◌, ◌<◌, length, take, drop}
 use Rattle.std.specs.Int.Bits.{bit_xor}
