@@ -27,7 +27,8 @@ const VERSION_Z: u8 = 0;
 
 const DUAL_BUS: u8 = 0;
 
-// What the caller is told, in the form of the C interface: the length written, or the refusal's number and 0.
+// What the caller is told, in the form of the C interface: the length written, or the refusal's number and 0. It is no
+// `From`, since both types are of other crates.
 fn told(outcome: Result<u32, Refusal>) -> Written
     ensures { result ≡ told outcome }
 {
