@@ -8,6 +8,7 @@ ghost use Rattle.telegram.specs.Over.{over};
 use telegram::{word_length, word_of};
 
 // Copies src into out from index at on. `copy_from_slice` would call `memmove`, and no call may leave the archive.
+#[tactic(auto, using(telegram::proofs::Over::over_none, telegram::proofs::Over::over_next))]
 pub(crate) fn copy_at(out: &mut [u8], at: usize, src: &[u8])
     requires { at + length src.now ≤ length out.old }
     ensures { out.new ≡ over out.old at src.now }

@@ -8,7 +8,7 @@ ghost use Rattle.telegram.specs.Refusals.{answered};
 ghost use Rattle.telegram.specs.Writers.{answer_of, left_by, unless, refusal, connect_allowed, disconnect_allowed, data_allowed};
 ghost use Rattle.telegram.specs.Writers.{writes_request, writes_confirm, writes_authentication, writes_acknowledgement};
 ghost use Rattle.telegram.specs.Writers.{writes_disconnect, writes_idle, writes_data};
-ghost use Rattle.writers.specs.Puts.{Suits, told, puts};
+ghost use Rattle.writers.specs.Puts.{Suits, told, puts, puts_connect, puts_number};
 ghost use Rattle.telegram.specs.Writers.Outcome.{wrote};
 
 use crate::put::{copy_at, put_word};
@@ -60,6 +60,7 @@ fn permit(end: End, room: usize, allowed: bool) -> Result<(), Refusal>
 
 // Writes a telegram by the command's low six bits, the bytes of its fixed fields, and its net data. Its length comes
 // back.
+#[tactic(auto, using(telegram::proofs::Widths::top_small))]
 fn put_telegram(out: &mut [u8], end: End, number: u32, low: u32, fields: &[u8], net: &[u8]) -> u32
     requires { (244 ≤ length out.old) × Suits end low fields.now net.now }
     ensures { (result ≡ length (sealed end number (body end.level number low fields.now net.now))) × (out.new ≡ left_by (wrote (sealed end number (body end.level number low fields.now net.now))) out.old) }
@@ -78,6 +79,7 @@ fn put_telegram(out: &mut [u8], end: End, number: u32, low: u32, fields: &[u8], 
 }
 
 // Writes such a telegram, or leaves the buffer as it is where there is a refusal.
+#[tactic(auto, using(telegram::proofs::Refusals::clear))]
 fn put(
     out: &mut [u8],
     end: End,
@@ -137,9 +139,10 @@ pub fn data_allowed(low: u32, count: usize, level: u32) -> bool
 }
 
 // A connect request or confirm, by its command. The random number is the telegram's sequence number.
+#[tactic(auto, using(telegram::proofs::Refusals::connect_room))]
 fn write_connect(out: &mut [u8], end: End, low: u32, random: u32, time: u32, net: &[u8]) -> Written
     requires { low < 64 }
-    ensures { (result ≡ answer_of (puts end random low (connect_allowed time (length net.now) end.level) (field_bytes (layout Kind.Request) (random ∷ time ∷ version_and_bus)) net.now out.old)) × (out.new ≡ left_by (puts end random low (connect_allowed time (length net.now) end.level) (field_bytes (layout Kind.Request) (random ∷ time ∷ version_and_bus)) net.now out.old) out.old) }
+    ensures { (result ≡ answer_of (puts_connect end low random time net.now out.old)) × (out.new ≡ left_by (puts_connect end low random time net.now out.old) out.old) }
 {
     let allowed = connect_allowed(time, net.len(), end.level);
     let fields = connect_fields(random, time);
@@ -147,15 +150,7 @@ fn write_connect(out: &mut [u8], end: End, low: u32, random: u32, time: u32, net
 }
 
 // Connect request (5.2.1).
-#[tactic(
-    auto,
-    unfolding(
-        telegram::specs::Writers::writes_request,
-        telegram::specs::Telegrams::request,
-        telegram::specs::Commands::kind_of,
-        ground::specs::Choice::pick
-    )
-)]
+#[tactic(auto, unfolding(telegram::specs::Writers::writes_request, telegram::specs::Telegrams::request, telegram::specs::Commands::kind_of, ground::specs::Choice::pick))]
 pub fn write_request(out: &mut [u8], end: End, random: u32, time: u32, net: &[u8]) -> Written
     ensures { (result ≡ answer_of (writes_request end random time net.now out.old)) × (out.new ≡ left_by (writes_request end random time net.now out.old) out.old) }
 {
@@ -163,15 +158,7 @@ pub fn write_request(out: &mut [u8], end: End, random: u32, time: u32, net: &[u8
 }
 
 // Connect confirm (5.2.2).
-#[tactic(
-    auto,
-    unfolding(
-        telegram::specs::Writers::writes_confirm,
-        telegram::specs::Telegrams::confirm,
-        telegram::specs::Commands::kind_of,
-        ground::specs::Choice::pick
-    )
-)]
+#[tactic(auto, unfolding(telegram::specs::Writers::writes_confirm, telegram::specs::Telegrams::confirm, telegram::specs::Commands::kind_of, ground::specs::Choice::pick))]
 pub fn write_confirm(out: &mut [u8], end: End, random: u32, time: u32, net: &[u8]) -> Written
     ensures { (result ≡ answer_of (writes_confirm end random time net.now out.old)) × (out.new ≡ left_by (writes_confirm end random time net.now out.old) out.old) }
 {
@@ -179,24 +166,17 @@ pub fn write_confirm(out: &mut [u8], end: End, random: u32, time: u32, net: &[u8
 }
 
 // An authentication or its acknowledgement, by its command, from the random number RECEIVED at set-up.
+#[tactic(auto, using(telegram::proofs::Widths::word_small))]
 fn write_number(out: &mut [u8], end: End, low: u32, number: u32, received: u32) -> Written
     requires { low < 64 }
-    ensures { (result ≡ answer_of (puts end number low true (field_bytes (layout Kind.Authentication) (authentication_number end.level received ∷ [])) [] out.old)) × (out.new ≡ left_by (puts end number low true (field_bytes (layout Kind.Authentication) (authentication_number end.level received ∷ [])) [] out.old) out.old) }
+    ensures { (result ≡ answer_of (puts_number end low number received out.old)) × (out.new ≡ left_by (puts_number end low number received out.old) out.old) }
 {
     let fields = authentication_of(end.level, received).to_le_bytes();
     told(put(out, end, number, low, true, &fields, b""))
 }
 
 // Authentication (5.2.3), from the random number RECEIVED at set-up.
-#[tactic(
-    auto,
-    unfolding(
-        telegram::specs::Writers::writes_authentication,
-        telegram::specs::Telegrams::authentication,
-        telegram::specs::Commands::kind_of,
-        ground::specs::Choice::pick
-    )
-)]
+#[tactic(auto, unfolding(telegram::specs::Writers::writes_authentication, telegram::specs::Telegrams::authentication, telegram::specs::Commands::kind_of, ground::specs::Choice::pick))]
 pub fn write_authentication(out: &mut [u8], end: End, number: u32, received: u32) -> Written
     ensures { (result ≡ answer_of (writes_authentication end number received out.old)) × (out.new ≡ left_by (writes_authentication end number received out.old) out.old) }
 {
@@ -204,15 +184,7 @@ pub fn write_authentication(out: &mut [u8], end: End, number: u32, received: u32
 }
 
 // Authentication acknowledgement (5.2.4), from the random number RECEIVED at set-up.
-#[tactic(
-    auto,
-    unfolding(
-        telegram::specs::Writers::writes_acknowledgement,
-        telegram::specs::Telegrams::acknowledgement,
-        telegram::specs::Commands::kind_of,
-        ground::specs::Choice::pick
-    )
-)]
+#[tactic(auto, unfolding(telegram::specs::Writers::writes_acknowledgement, telegram::specs::Telegrams::acknowledgement, telegram::specs::Commands::kind_of, ground::specs::Choice::pick))]
 pub fn write_acknowledgement(out: &mut [u8], end: End, number: u32, received: u32) -> Written
     ensures { (result ≡ answer_of (writes_acknowledgement end number received out.old)) × (out.new ≡ left_by (writes_acknowledgement end number received out.old) out.old) }
 {
@@ -220,6 +192,7 @@ pub fn write_acknowledgement(out: &mut [u8], end: End, number: u32, received: u3
 }
 
 // Disconnect (5.2.5). A new set-up is desired, 1, or the disconnection is final, 0.
+#[tactic(auto, using(telegram::proofs::Refusals::disconnect_room), unfolding(telegram::specs::Writers::writes_disconnect, telegram::specs::Telegrams::disconnect, telegram::specs::Commands::kind_of, ground::specs::Choice::pick))]
 pub fn write_disconnect(
     out: &mut [u8],
     end: End,
@@ -236,6 +209,7 @@ pub fn write_disconnect(
 }
 
 // Idle (5.2.6).
+#[tactic(auto, using(telegram::proofs::Widths::word_small), unfolding(telegram::specs::Writers::writes_idle, telegram::specs::Telegrams::idle, telegram::specs::Commands::kind_of, ground::specs::Choice::pick))]
 pub fn write_idle(out: &mut [u8], end: End, number: u32) -> Written
     ensures { (result ≡ answer_of (writes_idle end number out.old)) × (out.new ≡ left_by (writes_idle end number out.old) out.old) }
 {

@@ -1,5 +1,5 @@
 -- The buffer is as it was, with the bytes passed over it.
-use Rattle.std.proofs.Common.{◌≡◌, ◌-◌, ◌≤◌, length, take}
+use Rattle.std.proofs.Common.{◌≡◌, ◌≤◌, length, take}
 use Rattle.telegram.specs.Over.{over}
 use Rattle.writers.proofs.put.copy_at.Given as goal
 

@@ -1,17 +1,7 @@
 -- What each call wrote makes the telegram, by one law (`put_steps`).
 use Rattle.std.proofs.Common.{ℕ, ◌+◌, length, sym, ap, ◌∙◌, arith}
-use Rattle.telegram.proofs.Widths.{top_small}
 use Rattle.telegram.proofs.Sealing.{telegram_length, put_steps}
 use Rattle.writers.proofs.write.put_telegram.Goals as goal
-
-pub overflow_mul-command : goal.overflow_mul-command
-overflow_mul-command c = omega (arith, top_small c.args.end.level)
-
-pub overflow_add-command : goal.overflow_add-command
-overflow_add-command c = omega (arith, top_small c.args.end.level)
-
-pub overflow_cast-head-2 : goal.overflow_cast-head-2
-overflow_cast-head-2 c = omega (arith, top_small c.args.end.level)
 
 pub returns : goal.returns
 returns c =

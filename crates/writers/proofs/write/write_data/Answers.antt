@@ -1,5 +1,5 @@
 -- Net data have room where they are allowed (`data_room`), and their telegram has no fixed fields (`no_fields`).
-use Rattle.std.proofs.Common.{sym, ap, ◌∙◌, arith}
+use Rattle.std.proofs.Common.{sym, ◌∙◌, arith}
 use Rattle.telegram.specs.Commands.{kind_of}
 use Rattle.telegram.specs.Writers.{writes_data}
 use Rattle.telegram.specs.Telegrams.{data_telegram}
