@@ -5,7 +5,7 @@ ghost use Rattle.telegram.specs.Levels.{word_length};
 ghost use Rattle.telegram.specs.Telegrams.{check_word};
 ghost use Rattle.telegram.specs.Over.{over};
 
-use telegram::{word_length, word_of};
+use telegram::word_of;
 
 // Copies src into out from index at on. `copy_from_slice` would call `memmove`, and no call may leave the archive.
 #[tactic(auto, using(telegram::proofs::Over::over_none, telegram::proofs::Over::over_next))]
@@ -23,7 +23,11 @@ pub(crate) fn put_word(out: &mut [u8], n: usize, level: u32, implicit: &[u8; 8])
     requires { n + word_length level ≤ length out.old }
     ensures { out.new ≡ over out.old n (bytes_of (word_length level) (check_word level implicit.now (take n out.old))) }
 {
-    // Highest byte first, and as many of the lowest bytes as the level's word has.
+    // Highest byte first. A slice whose length is known only at run time would be copied by a call of `memcpy`.
     let word = word_of(level, implicit, &out[..n]).to_be_bytes();
-    copy_at(out, n, &word[8 - word_length(level)..]);
+    if level == 4 {
+        copy_at(out, n, &word[2..]);
+    } else {
+        copy_at(out, n, &word[4..]);
+    }
 }

@@ -1,25 +1,27 @@
--- The last bytes of the eight, six at level 4 and four at level 2, are the word's.
-use Rattle.std.proofs.Common.{◌≡◌, ℕ, ◌-◌, Bool, true, false, List, refl, ap, ◌∙◌, take, drop, arith, eqb, w64, div-one}
+-- By the level, its word's bytes are the last six or four of the eight, behind the n bytes.
+use Rattle.std.proofs.Common.{◌≡◌, ℕ, List, ap, ◌∙◌, take, drop, length, refl, arith, w64, div-one}
 use Rattle.std.specs.Int.{to_be_bytes}
 use Rattle.checkword.specs.Bytes.{bytes_of}
-use Rattle.ground.specs.Choice.{pick}
-use Rattle.telegram.specs.Levels.{word_length}
 use Rattle.telegram.specs.Over.{over}
-use Rattle.telegram.proofs.Widths.{word_small}
+use Rattle.telegram.proofs.Widths.{six, four, word_bytes}
 use Rattle.writers.proofs.put.put_word.Goals as goal
 
-last : (b : Bool) (word : ℕ) → take (8 - (8 - pick b 6 4)) (drop (8 - pick b 6 4) (to_be_bytes w64 word)) ≡ bytes_of (pick b 6 4) word
-unfolding pick
-last true word = rw (div-one word) refl
-last false word = rw (div-one word) refl
+last_six : (bytes : List ℕ) (word : ℕ) → bytes ≡ to_be_bytes w64 word → take 6 (drop 2 bytes) ≡ bytes_of 6 word
+last_six bytes word e = rw (e, div-one word) refl
 
-word_last : (level k word w : ℕ) (bytes : List ℕ) → k ≡ word_length level → bytes ≡ to_be_bytes w64 word → word ≡ w
-    → take (8 - (8 - k)) (drop (8 - k) bytes) ≡ bytes_of (word_length level) w
-unfolding word_length
-word_last level k word w bytes e f g = rw (e, f, g) (last (eqb level 4) w)
+last_four : (bytes : List ℕ) (word : ℕ) → bytes ≡ to_be_bytes w64 word → take 4 (drop 4 bytes) ≡ bytes_of 4 word
+last_four bytes word e = rw (e, div-one word) refl
 
-pub overflow_sub-word_length : goal.overflow_sub-word_length
-overflow_sub-word_length c = omega (arith, word_small c.args.level)
+pub copy_at-requires : goal.copy_at-requires
+copy_at-requires c = omega (arith, six _ c.if-level-eq4.true, ap length (last_six _ _ c.to_be_bytes-word.ensures))
 
-pub returns : goal.returns
-returns c = c.copy_at.ensures ∙ ap (over _ _) (word_last _ _ _ _ _ c.word_length.ensures c.to_be_bytes-word.ensures c.word_of.ensures)
+pub copy_at-requires-else-level-eq4 : goal.copy_at-requires-else-level-eq4
+copy_at-requires-else-level-eq4 c = omega (arith, four _ c.if-level-eq4.false, ap length (last_four _ _ c.to_be_bytes-word.ensures))
+
+pub returns-then-level-eq4 : goal.returns-then-level-eq4
+returns-then-level-eq4 c =
+    c.copy_at.ensures ∙ ap (over _ _) (word_bytes _ _ _ _ _ _ (six _ c.if-level-eq4.true) c.word_of.ensures (last_six _ _ c.to_be_bytes-word.ensures))
+
+pub returns-else-level-eq4 : goal.returns-else-level-eq4
+returns-else-level-eq4 c =
+    c.copy_at-else-level-eq4.ensures ∙ ap (over _ _) (word_bytes _ _ _ _ _ _ (four _ c.if-level-eq4.false) c.word_of.ensures (last_four _ _ c.to_be_bytes-word.ensures))
