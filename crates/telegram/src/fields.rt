@@ -26,13 +26,13 @@ pub fn kind_of_telegram(telegram: &[u8]) -> Kind
 pub fn random_number(telegram: &[u8]) -> u32
     ensures { result ≡ random_of telegram.now }
 {
-    u32::from_le_bytes(bytes_at(telegram, 2))
+    u32::from_le_bytes(bytes_at::<4>(telegram, 2))
 }
 
 pub fn idle_time(telegram: &[u8]) -> u32
     ensures { result ≡ idle_time_of telegram.now }
 {
-    u16::from_le_bytes(bytes_at(telegram, 6)) as u32
+    u16::from_le_bytes(bytes_at::<2>(telegram, 6)) as u32
 }
 
 pub fn version_x(telegram: &[u8]) -> u32
@@ -51,7 +51,7 @@ pub fn version_y(telegram: &[u8]) -> u32
 pub fn authentication_number(telegram: &[u8]) -> u32
     ensures { result ≡ authentication_of telegram.now }
 {
-    u32::from_le_bytes(bytes_at(telegram, 2))
+    u32::from_le_bytes(bytes_at::<4>(telegram, 2))
 }
 
 // Of a disconnect.
