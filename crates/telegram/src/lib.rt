@@ -24,8 +24,8 @@ pub use levels::{added_number, level_of, top_bits, word_length, word_of};
 pub use parts::{net_data, net_part};
 pub use values::{good_dual_bus, good_idle, good_type, listed_reason};
 
-// One end of a connection, by the numbers that its writers and its check take from the caller and never from a frame. A level is a number, 4 or 2 and no
-// enum, since `End` is public and takes any: 0 and all others are refused, with 1.
+// One end of a connection, by the numbers that its writers and its check take from the caller and never from a frame. The level is a number and no
+// enum, since `End` is public and takes any: what is neither 4 nor 2 is refused, with 1.
 #[derive(Clone, Copy)]
 pub struct End {
     pub own: u32,
