@@ -1,6 +1,5 @@
 // What a verdict does: at most one telegram is written, and the record and the event come back. Record and own address
-// stay two arguments: in a struct of both the record would be copied once more (docs/DECISIONS.md, "Stack on the small
-// card").
+// stay two arguments, as the steps have them: a struct of both would be made only to be taken apart.
 ghost use Rattle.std.specs.Prelude.{◌≡◌, [], ◌==◌};
 ghost use Rattle.ground.specs.Choice.{pick};
 ghost use Rattle.telegram.specs.Fields.{type_of, reason_of, low_of};
