@@ -14,12 +14,11 @@ pub trait Rows {
 
     ghost high: { List ℕ };
 
+    // The number at a place, 0 past the end.
     fn low_at(place: u64) -> u64
-        requires { place < 320 }
         ensures { result ≡ get_or low place 0 };
 
     fn high_at(place: u64) -> u64
-        requires { place < 384 }
         ensures { result ≡ get_or high place 0 };
 }
 

@@ -1049,7 +1049,8 @@ impl Rows for Rows32 {
             317 => 0x414D5F9400000000,
             318 => 0x64A20BF600000000,
             319 => 0x7807382800000000,
-            _ => LOW[place as usize],
+            _ if place < 320 => LOW[place as usize],
+            _ => 0,
         }
     }
 
@@ -1439,7 +1440,8 @@ impl Rows for Rows32 {
             381 => 0x8BE1892B00000000,
             382 => 0x52965DE900000000,
             383 => 0x1A44EE5700000000,
-            _ => HIGH[place as usize],
+            _ if place < 384 => HIGH[place as usize],
+            _ => 0,
         }
     }
 }

@@ -1049,7 +1049,8 @@ impl Rows for Rows48 {
             317 => 0xEFEF05258F380000,
             318 => 0x94C024C4A52F0000,
             319 => 0xBDDAC46443220000,
-            _ => LOW[place as usize],
+            _ if place < 320 => LOW[place as usize],
+            _ => 0,
         }
     }
 
@@ -1439,7 +1440,8 @@ impl Rows for Rows48 {
             381 => 0xC3585F915EFA0000,
             382 => 0x85D4FC3EEDF40000,
             383 => 0x9D40C0DBA950000,
-            _ => HIGH[place as usize],
+            _ if place < 384 => HIGH[place as usize],
+            _ => 0,
         }
     }
 }
