@@ -1,7 +1,9 @@
-// What the digits of a number leave in the register of the check word at SL 4: each digit of six bits picks its place in its row of 64 numbers.
+// What the digits of a number leave in the register of the check word at SL 4: each digit of six bits picks its
+// place in its row of 64 numbers.
 //
-// A row is read by a `match`, which compiles to a read of constant memory. A constant that is read at a place would be laid out on the stack each time: it is read
-// so in the default arms only, which are never reached and are not in the compiled code.
+// A row is read by a `match`, which compiles to a read of constant memory. A constant that is read at a place would be
+// laid out on the stack each time: it is read so behind all places only, an arm that no place reaches and that is not in
+// the compiled code.
 #![tactic(auto)]
 
 ghost use Rattle.rows48.specs.Rows as rows48;
