@@ -1,5 +1,5 @@
-// Each refusal of the calls, and the first of several: a line each, and no table of rows, since the calls differ in what
-// they are given.
+// Each refusal of the calls, and the first of several: a line each, and no table of rows, since the calls differ in
+// what they are given.
 use crate::cards::module;
 use crate::station::Station;
 use std::io;
