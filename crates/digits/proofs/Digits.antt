@@ -13,9 +13,6 @@ use Rattle.digits.proofs.Xor.{xor_assoc}
 abbrev pub place : ℕ → ℕ → ℕ
 place v p = p * 64 + v / 2 ^ (6 * p) % 64
 
-pub place_lt : (v p n : ℕ) → p < n → place v p < n * 64
-place_lt v p n h = omega arith
-
 -- the digit that is next
 pub next : (rows : List ℕ) (x v p : ℕ) → 0 < p → bit_xor (bit_xor x (get_or rows (place v (p - 1)) 0)) (picked rows (p - 1) v) ≡ bit_xor x (picked rows p v)
 next rows x v zero h = absurd (omega arith)

@@ -33,7 +33,7 @@ pub struct Route {
 }
 
 // What a call leaves beside table and buffer.
-#[derive(Clone, Copy)]
+#[derive(Clone, Copy, Debug, PartialEq, Eq)]
 pub struct Outcome {
     pub head: Head,
     pub answer: Answer,
@@ -42,7 +42,7 @@ pub struct Outcome {
 
 // The same as plain numbers.
 #[repr(C)]
-#[derive(Clone, Copy)]
+#[derive(Clone, Copy, Debug, PartialEq, Eq)]
 pub struct PlainOutcome {
     pub head: Head,
     pub answer: Answer,

@@ -26,7 +26,7 @@ pub use values::{good_dual_bus, good_idle, good_type, listed_reason};
 
 // One end of a connection, by the numbers that its writers and its check take from the caller and never from a frame. The level is a number and no
 // enum, since `End` is public and takes any: what is neither 4 nor 2 is refused, with 1.
-#[derive(Clone, Copy)]
+#[derive(Clone, Copy, Debug, PartialEq, Eq)]
 pub struct End {
     pub own: u32,
     pub partner: u32,
@@ -36,7 +36,7 @@ pub struct End {
 }
 
 // What a command's low six bits name.
-#[derive(Clone, Copy)]
+#[derive(Clone, Copy, Debug, PartialEq, Eq)]
 pub enum Kind {
     Request,
     Confirm,
@@ -50,7 +50,7 @@ pub enum Kind {
 
 // What a writer did: answer 0 and the telegram's length, or a refusal and 0.
 #[repr(C)]
-#[derive(Clone, Copy)]
+#[derive(Clone, Copy, Debug, PartialEq, Eq)]
 pub struct Written {
     pub answer: u32,
     pub length: u32,
@@ -92,7 +92,7 @@ pub type Check = Result<(), Unfit>;
 
 // Where the net data of a telegram lie.
 #[repr(C)]
-#[derive(Clone, Copy)]
+#[derive(Clone, Copy, Debug, PartialEq, Eq)]
 pub struct Part {
     pub start: u32,
     pub count: u32,

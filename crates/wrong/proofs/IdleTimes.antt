@@ -30,7 +30,7 @@ use Rattle.node.specs.declared.Head.{Head}
 use Rattle.node.specs.Accepted.{record_at, record_accepted, bounds_accepted, accepted}
 use Rattle.node.specs.Calls.{Left, Link, asked, called}
 use Rattle.node.specs.Calls.Call.{Open, Close, Send, Received, Tick}
-use Rattle.demands.specs.Effects.{Receipt, takes, place_for}
+use Rattle.demands.specs.Effects.{Receipt, takes}
 use Rattle.demands.specs.OneEnd.{GoodRequest}
 use Rattle.demands.specs.IdleTimes.{Declares}
 use Rattle.demands.proofs.DamagedConnect.{of_levels}
@@ -96,11 +96,6 @@ levels l is = by (of_levels l is)
     by : (l ≡ 4) ⊎ (l ≡ 2) → Level l
     by (inl e) = subst Level (sym e) level_4
     by (inr e) = subst Level (sym e) level_2
-
--- it is for the one record, and it is a good request
-for_it : (l : ℕ) (i : Option ℕ) → place_for (comes l i) ≡ 0
-unfolding fresh_of pick
-for_it l i = refl
 
 good_request : (l : ℕ) (i : Option ℕ) → Level l → GoodRequest (comes l i)
 unfolding fresh_of end_of expected_now pick
