@@ -18,7 +18,7 @@ pub(crate) fn after(gap: u32) -> u64 {
 }
 
 // The phases by their numbers in a record.
-#[derive(Clone, Copy)]
+#[derive(Clone, Copy, Debug, PartialEq, Eq)]
 pub(crate) enum Phase {
     Closed = link::CLOSED as isize,
     ConfirmAwaited = link::CONFIRM_AWAITED as isize,
@@ -31,7 +31,7 @@ pub(crate) enum Phase {
 // Telegrams of the partner's. Those up to data are good, and an answer names them by these numbers. The late idle
 // telegram is 256 numbers too late, so that its check word fails; the last two are from a random number that is not
 // ours.
-#[derive(Clone, Copy)]
+#[derive(Clone, Copy, Debug, PartialEq, Eq)]
 pub(crate) enum Kind {
     Request = 1,
     Confirm,

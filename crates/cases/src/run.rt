@@ -6,7 +6,7 @@ use telegram::LONGEST;
 
 // A node's own address, the random number that it opens and confirms with, its record, and how long the buffer is that
 // its steps write into.
-#[derive(Clone, Copy)]
+#[derive(Clone, Copy, Debug, PartialEq, Eq)]
 pub(crate) struct Side {
     pub own: u32,
     pub random: u32,

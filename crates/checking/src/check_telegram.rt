@@ -1,4 +1,5 @@
-// The check of a received telegram. Addresses and SAPs are the end's and never the frame's; the check word is worked out last, over two runs.
+// The check of a received telegram. Addresses and SAPs are the end's and never the frame's; the check word is worked
+// out last, over two runs.
 ghost use Rattle.std.specs.Prelude.{◌≡◌, ◌≤◌, length, MatchResult};
 ghost use Rattle.telegram.specs.Layout.{values};
 ghost use Rattle.telegram.specs.Values.{good_fields};
@@ -98,7 +99,8 @@ pub fn checked(end: End, expected: u32, telegram: &[u8]) -> Check
     first_failing(end, expected, telegram).map_err(Unfit::Failed)
 }
 
-// The number that says what the check found: 0 passes, 1 and 6 refused, 100 failed.
+// The number that says what the check found: 0 passes, 1 and 6 refused, 100 failed. It is no `From`: both types are of
+// other crates.
 pub fn answer_number(check: Check) -> u32
     ensures { result ≡ answer_number check }
 {

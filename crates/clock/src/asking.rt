@@ -8,7 +8,8 @@ use crate::means::mean;
 use crate::states::SYNCHRONISED;
 use crate::{Clock, LocalTime, RefTime};
 
-// Whether sixteen pairs count at a moment: the clock is synchronised, and its last resynchronisation is at most 3 s away.
+// Whether sixteen pairs count at a moment: the clock is synchronised, and its last resynchronisation is at most 3 s
+// away.
 #[tactic(auto, unfolding(ground::specs::Choice::pick, crate::specs::Asking::counts_at))]
 fn counts(c: Clock, local: LocalTime) -> bool
     ensures { result ≡ counts_at c local }
@@ -27,7 +28,8 @@ fn adjusted(local: LocalTime, factor: u32) -> RefTime
     RefTime(time)
 }
 
-// The factor at a moment, where sixteen pairs count. Inlined, so that its callers read the pairs where they stand: a call would have the clock copied first.
+// The factor at a moment, where sixteen pairs count. Inlined, so that its callers read the pairs where they stand: a
+// call would have the clock copied first.
 #[inline(always)]
 #[tactic(auto, unfolding(ground::specs::Choice::pick, crate::specs::Asking::factor_at))]
 pub fn factor(c: Clock, local: LocalTime) -> Option<u32>

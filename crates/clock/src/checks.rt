@@ -1,4 +1,5 @@
-// The tests of 7.4.2.2 and 7.4.3, and of 7.4.1.5 and 7.4.1.6. Where several stand in a row, the answer is the first that fails, if one does.
+// The tests of 7.4.2.2 and 7.4.3, and of 7.4.1.5 and 7.4.1.6. Where several stand in a row, the answer is the first
+// that fails, if one does.
 ghost use Rattle.std.specs.Prelude.{◌≡◌};
 ghost use Rattle.clock.specs.Tests.{is_above, is_following, elapsed, failing, standing_tests, later_tests, near_tests, pair_tests, period_over, period_tests};
 

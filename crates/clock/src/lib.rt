@@ -1,5 +1,6 @@
-// The local clock of SUBSET-056: Reference Time on a node without the reference clock, from the Sync and Reference Time messages. It knows no telegram and no
-// record. The estimator is the caller's, and each message brings it up to date where it stands.
+// The local clock of SUBSET-056: Reference Time on a node without the reference clock, from the Sync and Reference Time
+// messages. It knows no telegram and no record. The estimator is the caller's, and each message brings it up to date
+// where it stands.
 #![tactic(auto)]
 
 mod asking;
@@ -62,8 +63,9 @@ pub struct Period {
     pub messages: u32,
 }
 
-// The estimator: the pairs, newest first, how many of them count, the state, the message received last, the moment of the last resynchronisation, the period.
-// C owns it and may fill it with anything: so `state`, `count` and `Last::received` are numbers, of which every value has a meaning, and no enum and no bool.
+// The estimator: the pairs, newest first, how many of them count, the state, the message received last, the moment of
+// the last resynchronisation, the period. C owns it and may fill it with anything: so `state`, `count` and
+// `Last::received` are numbers, of which every value has a meaning, and no enum and no bool.
 #[repr(C)]
 #[derive(Clone, Copy, Debug, PartialEq, Eq)]
 pub struct Clock {
@@ -89,7 +91,8 @@ pub enum Unreadable {
     OtherPrefix = 202,
 }
 
-// What was read, the factor asked for and the Reference Time asked for, as plain numbers for C: an answer of 0 and the value, or why there is none.
+// What was read, the factor asked for and the Reference Time asked for, as plain numbers for C: an answer of 0 and the
+// value, or why there is none.
 #[repr(C)]
 #[derive(Clone, Copy, Debug, PartialEq, Eq)]
 pub struct PlainReading {

@@ -1,4 +1,5 @@
-// What is read and what is asked for as plain numbers, for C: 0 and the value, or the number of why there is none, and a value of 0.
+// What is read and what is asked for as plain numbers, for C: 0 and the value, or the number of why there is none, and
+// a value of 0.
 ghost use Rattle.std.specs.Prelude.{◌≡◌};
 ghost use Rattle.clock.specs.Plain.{plain_reading, plain_factor, plain_time};
 

@@ -1,4 +1,5 @@
-// The clock, its states (7.4.1.7.2), and what a message leaves of it. A state that has no name here counts as isolated, so that a zeroed clock is never a new one.
+// The clock, its states (7.4.1.7.2), and what a message leaves of it. A state that has no name here counts as isolated,
+// so that a zeroed clock is never a new one.
 ghost use Rattle.std.specs.Prelude.{◌≡◌};
 ghost use Rattle.clock.specs.Clocks.{new_clock, kept_by, paired_by, begun_anew, forgotten, isolated_by, synchronised_at, next_period, counting_period, period_after, in_period, resynchronised_at, counted_of};
 

@@ -1,5 +1,6 @@
-// What a message does, by value: Synchronise, 7.4.2, and Resynchronise, 7.4.3. Clock, message and moment stay three parameters, as in `uj_clock_message` and in
-// the definitions: a struct of them would be taken apart again in each function.
+// What a message does, by value: Synchronise, 7.4.2, and Resynchronise, 7.4.3. Clock, message and moment stay three
+// parameters, as in `uj_clock_message` and in the definitions: a struct of them would be taken apart again in each
+// function.
 ghost use Rattle.std.specs.Prelude.{◌≡◌, ◌++◌};
 ghost use Rattle.clock.specs.Tests.{failing};
 ghost use Rattle.clock.specs.Updates.{pair_by, anew_by, lost_by, first_failing, synchronise, tests_of_pair, tests_of_period, joined_by, pair_taken, gone_on, resynchronise, heard_by};

@@ -1,5 +1,5 @@
-// The clock for C and for Rattle: the one function that takes it where it stands, and what is asked of it. include/ujamniq.h declares them, for the people who
-// call them; clock_export hands them to C.
+// The clock for C and for Rattle: the one function that takes it where it stands, and what is asked of it.
+// include/ujamniq.h declares them, for the people who call them; clock_export hands them to C.
 ghost use Rattle.std.specs.Prelude.{◌≡◌};
 ghost use Rattle.clock.specs.Clocks.{new_clock};
 ghost use Rattle.clock.specs.Events.{number_of};

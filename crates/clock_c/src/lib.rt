@@ -1,5 +1,5 @@
-// The local clock for the card's C firmware: a message from its bytes, a message for the clock where it stands, and the two questions. include/ujamniq.h declares what stands here, for the
-// people who call it.
+// The local clock for the card's C firmware: a message from its bytes, a message for the clock where it stands, and the
+// two questions. include/ujamniq.h declares what stands here, for the people who call it.
 #![tactic(auto)]
 
 mod exported;

@@ -1,5 +1,6 @@
-// The local clock for C, on plain numbers, byte runs and a clock where it stands. include/ujamniq.h declares what stands here, for the people who call it.
-// Each is the function of `clock_c` that has its name, and says what that says.
+// The local clock for C, on plain numbers, byte runs and a clock where it stands. include/ujamniq.h declares what
+// stands here, for the people who call it. Each is the function of `clock_c` that has its name, and says what that
+// says: a crate is a library or a static library, and Rattle code calls the library's.
 #![tactic(auto)]
 
 ghost use Rattle.std.specs.Prelude.{◌≡◌};

@@ -22,7 +22,7 @@ ground =
     }
 
 digits : Digits
-digits = record { low = λ R v. unique; high = λ R y v. unique }
+digits = record { low_at = λ low place. unique; high_at = λ high place. unique; low = λ R v. unique; high = λ R y v. unique }
 
 checkword : Checkword
 checkword =

@@ -85,7 +85,9 @@ pub record RowsOf : Type 0 where
   pub high : List ℕ
 
 pub record Digits : Type 0 where
-  -- src/lib.rt: what the low and the high digits of a number leave
+  -- src/lib.rt: the number at a place of the rows that a width gives, and what the low and the high digits of a number leave
+  pub low_at : (low : List ℕ) (place : ℕ) → Unique (λ (r : ℕ). r ≡ get_or low place 0)
+  pub high_at : (high : List ℕ) (place : ℕ) → Unique (λ (r : ℕ). r ≡ get_or high place 0)
   pub low : (R : RowsOf) (v : ℕ) → Unique (λ (r : ℕ). r ≡ picked R.low 5 v)
   pub high : (R : RowsOf) (y v : ℕ) → Unique (λ (r : ℕ). r ≡ bit_xor y (picked R.high 6 v))
 

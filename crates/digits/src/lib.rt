@@ -22,8 +22,8 @@ pub trait Rows {
         ensures { result ≡ get_or high place 0 };
 }
 
-// What the five lowest digits of `v` leave. This loop and that of `high` stay two: one for both would need a trait for
-// each of the two lists beside that of a width, and so two names more for each width.
+// What the five lowest digits of `v` leave. This loop and that of `high` stay two: one for both would be given a
+// closure that reads, how many digits, and where they begin, and would say less than the two do.
 pub fn low<R: Rows>(v: u64) -> u64
     ensures { result ≡ picked R.low 5 v }
 {

@@ -1,5 +1,5 @@
-// What every crate may stand on: the bytes at a place of a run. specs/ has the choice by a test, with the rules by which
-// a search takes it apart, and numbers as bytes.
+// What every crate may stand on: the bytes at a place of a run. specs/ has the choice by a test, with the rules by
+// which a search takes it apart, and numbers as bytes.
 #![tactic(auto)]
 
 mod numbers;

@@ -15,7 +15,8 @@ use crate::records::{after_sending, after_taking, closed_by, end_of};
 use crate::{Answer, Event, Record, Step, Verdict};
 use telegram::Written;
 
-// The telegrams, by the numbers that an answer has for them.
+// The telegrams, by the numbers that an answer has for them. They are no discriminants of `telegram::Kind`, whose
+// Unknown is no telegram that is written.
 #[derive(Clone, Copy, Debug, PartialEq, Eq)]
 pub(crate) enum Telegram {
     Request = 1,
@@ -28,7 +29,7 @@ pub(crate) enum Telegram {
 }
 
 // What a confirm carries, should the telegram received ask for one.
-#[derive(Clone, Copy)]
+#[derive(Clone, Copy, Debug, PartialEq, Eq)]
 pub(crate) struct Offer<'a> {
     pub(crate) random: u32,
     pub(crate) declared: u32,
@@ -47,7 +48,7 @@ pub(crate) fn quiet_step(record: Record, event: Event) -> Step
     }
 }
 
-// A refused step.
+// A refused step. The refusal comes as a number, since a writer's does (`Written`, the C interface).
 #[tactic(auto, unfolding(crate::specs::Steps::refused_step))]
 pub(crate) fn refused_step(number: u32, record: Record) -> Step
     ensures { result ≡ refused_step number «record» }

@@ -72,7 +72,7 @@ fn in_confirm_awaited(kind: Kind) -> Verdict
     }
 }
 
-// Column wAuthReq.
+// Column wAuthReq. It and the next stay two functions, as all five: each is a column of the paper.
 #[tactic(auto, unfolding(ground::specs::Choice::pick))]
 fn in_authentication_awaited(kind: Kind) -> Verdict
     ensures { result ≡ ruled (row_of kind) 3 }

@@ -37,7 +37,8 @@ pub struct Record {
     pub taken_at: u64,
 }
 
-// What happened, for the layer above.
+// What happened, for the layer above. Where the net data of data lie is told by two numbers, as the theorems read them,
+// and a reason by the number that the layer above may have given.
 #[derive(Clone, Copy, Debug, PartialEq, Eq)]
 pub enum Event {
     Nothing,

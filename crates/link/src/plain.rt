@@ -4,7 +4,7 @@ ghost use Rattle.link.specs.Plain.{idle_time_by, happened, plain};
 
 use crate::{Event, Happened, Step, Stepped};
 
-// An idle time is named where the flag is not 0.
+// An idle time is named where the flag is not 0. This is no `From`: an `Option<u32>` is not ours.
 #[tactic(auto, unfolding(crate::specs::Plain::idle_time_by, ground::specs::Choice::pick))]
 pub fn idle_time_by(named: u32, time: u32) -> Option<u32>
     ensures { result ≡ idle_time_by named time }

@@ -35,7 +35,8 @@ fn is_closed(phase: u32) -> bool
     matches!(phase, CLOSED | FINALLY_CLOSED)
 }
 
-// Whether numbers, idle times and timers are 0.
+// Whether numbers, idle times and timers are 0: each for itself, as the definition lists them, and no derived equality
+// with a record of zeros, which would compare partner, SAPs and level with themselves.
 #[tactic(auto, using(ground::specs::Choice::tests), unfolding(crate::specs::Records::at_rest))]
 fn at_rest(record: Record) -> bool
     ensures { result ≡ at_rest «record» }
@@ -95,7 +96,8 @@ pub(crate) fn closed_by(last: bool, record: Record) -> Record
     Record { phase, ..closed }
 }
 
-// The same open connection after a telegram was taken.
+// The same open connection after a telegram was taken, and after one was sent. They stay two: each has its own number
+// and its own timer.
 #[tactic(auto, using(crate::proofs::Cases::becomes), unfolding(crate::specs::Steps::taken))]
 pub(crate) fn after_taking(record: Record, time: u64) -> Record
     ensures { result ≡ taken «record» time }
@@ -108,7 +110,6 @@ pub(crate) fn after_taking(record: Record, time: u64) -> Record
     }
 }
 
-// The same open connection after a telegram was sent.
 #[tactic(auto, using(crate::proofs::Cases::becomes), unfolding(crate::specs::Steps::sent))]
 pub(crate) fn after_sending(record: Record, time: u64) -> Record
     ensures { result ≡ sent «record» time }

@@ -1,6 +1,7 @@
 // The five steps over one record: open, close, send, received, tick. Each writes at most one telegram into the lent
 // buffer; a refused step changes nothing. Their arguments are those that the scope names, one by one. Each begins with
-// its refusals: three lines, shorter than a function around it that would take the rest of the step as a closure.
+// its refusals: three lines, shorter than a function around it that would take the rest of the step as a closure. What
+// a step writes under which number and what its record becomes is each step's own.
 ghost use Rattle.std.specs.Prelude.{◌≡◌, nat_le};
 ghost use Rattle.telegram.specs.Layout.{longest};
 ghost use Rattle.telegram.specs.Refusals.{answered};
@@ -26,7 +27,7 @@ fn declared_by(idle: Option<u32>) -> u32
 
 // What a step asks for beside record and buffer: a telegram that the bus can carry, a phase that it is for, values that
 // are allowed.
-#[derive(Clone, Copy)]
+#[derive(Clone, Copy, Debug, PartialEq, Eq)]
 struct Conditions {
     carried: bool,
     suited: bool,

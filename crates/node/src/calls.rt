@@ -1,5 +1,5 @@
 // The five calls. Each refuses what concerns the table, and else applies the step of one connection to one record,
-// where it stands.
+// where it stands. Their arguments are those that the scope names, one by one.
 ghost use Rattle.std.specs.Prelude.{◌≡◌, length, unwrap_or};
 ghost use Rattle.node.specs.Matching.{place_in};
 ghost use Rattle.node.specs.Calls.{Call, place_of, carried_by, TakesStep, called};

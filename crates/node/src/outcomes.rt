@@ -7,7 +7,7 @@ use crate::{Head, Outcome, PlainOutcome};
 use link::{Answer, Event, Happened, Step};
 use telegram::Part;
 
-// A refused call: the head as it was.
+// A refused call: the head as it was. The refusal comes as a number, since a step's does (`Answer`, the C interface).
 #[tactic(auto, unfolding(crate::specs::Calls::refused_outcome))]
 pub(crate) fn refused(number: u32, head: Head) -> Outcome
     ensures { result ≡ refused_outcome number head }
@@ -16,8 +16,7 @@ pub(crate) fn refused(number: u32, head: Head) -> Outcome
         head,
         answer: Answer {
             number,
-            telegram: 0,
-            length: 0,
+            ..Answer::default()
         },
         event: Event::Nothing,
     }
@@ -46,7 +45,7 @@ fn data_part(event: Event) -> Part
     ensures { result ≡ part_of event }
 {
     let Event::Data { start, count, .. } = event else {
-        return Part { start: 0, count: 0 };
+        return Part::default();
     };
     Part { start, count }
 }

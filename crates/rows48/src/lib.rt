@@ -2,8 +2,8 @@
 // place in its row of 64 numbers.
 //
 // A row is read by a `match`, which compiles to a read of constant memory. A constant that is read at a place would be
-// laid out on the stack each time: it is read so behind all places only, an arm that no place reaches and that is not in
-// the compiled code.
+// laid out on the stack each time: it is read so behind all places only, in an arm that no place reaches and that is
+// not in the compiled code.
 #![tactic(auto)]
 
 ghost use Rattle.rows48.specs.Rows as rows48;

@@ -6,7 +6,7 @@ use std::fmt;
 use telegram::{LONGEST, Written};
 
 // A run of bytes, in hexadecimal.
-#[derive(Clone, Copy)]
+#[derive(Clone, Copy, Debug, PartialEq, Eq)]
 pub struct Hex<'a>(pub &'a [u8]);
 
 impl fmt::Display for Hex<'_> {
@@ -18,8 +18,8 @@ impl fmt::Display for Hex<'_> {
     }
 }
 
-// A telegram: the front of the buffer that it was written into.
-#[derive(Clone, Copy)]
+// A telegram: the front of the buffer that it was written into, since nothing here has a heap.
+#[derive(Clone, Copy, Debug, PartialEq, Eq)]
 pub struct Telegram {
     pub bytes: [u8; LONGEST],
     pub length: u32,
@@ -59,7 +59,7 @@ impl fmt::Display for Telegram {
 }
 
 // An answer: its number, the telegram written and its length.
-#[derive(Clone, Copy)]
+#[derive(Clone, Copy, Debug, PartialEq, Eq)]
 pub struct Answer(pub link::Answer);
 
 impl fmt::Display for Answer {
@@ -74,7 +74,7 @@ impl fmt::Display for Answer {
 }
 
 // An event by its number, and the values that it has.
-#[derive(Clone, Copy)]
+#[derive(Clone, Copy, Debug, PartialEq, Eq)]
 pub struct Event(pub link::Event);
 
 impl fmt::Display for Event {
@@ -95,7 +95,7 @@ impl fmt::Display for Event {
 }
 
 // What a record is.
-#[derive(Clone, Copy)]
+#[derive(Clone, Copy, Debug, PartialEq, Eq)]
 pub struct Record(pub link::Record);
 
 impl fmt::Display for Record {

@@ -1,4 +1,5 @@
-// A node of two connections, and its calls, each run and shown as a line.
+// A node of two connections, and its calls, each run and shown as a line. This and cases/src/run.rt stay two: a step
+// and a call are given and leave other things.
 use link::Record;
 use node::{Head, Outcome, Route};
 use shown::Telegram;
@@ -7,7 +8,7 @@ use telegram::LONGEST;
 
 // The head, the table, the random number that it opens and confirms with, and how long the buffer is that its calls
 // write into.
-#[derive(Clone, Copy)]
+#[derive(Clone, Copy, Debug, PartialEq, Eq)]
 pub(crate) struct Station {
     pub head: Head,
     pub table: [Record; 2],

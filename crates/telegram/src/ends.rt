@@ -41,7 +41,8 @@ fn implicit_bytes(
 ) -> [u8; 8]
     ensures { result ≡ implicit count receiver sender dsap ssap number }
 {
-    // The number's lowest byte is the telegram's first.
+    // The number's lowest byte is the telegram's first. Of the other numbers the lowest byte is taken:
+    // `to_le_bytes()[0]` would say no more.
     let [_, low, middle, high] = number.to_le_bytes();
     [
         (count % 256) as u8,

@@ -1,6 +1,6 @@
-// What stands on the wire at levels 4 and 2: the seven telegrams of SUBSET-057 5.2, with their levels, commands, layouts and fields. No phase, no time, no
-// table. The definitions are in specs/, one file for each section of the paper: also those of the writers and of the check, whose code is in the crates
-// writers and checking.
+// What stands on the wire at levels 4 and 2: the seven telegrams of SUBSET-057 5.2, with their levels, commands,
+// layouts and fields. No phase, no time, no table. The definitions are in specs/, one file for each section of the
+// paper: also those of the writers and of the check, whose code is in the crates writers and checking.
 #![tactic(auto)]
 
 mod commands;
@@ -24,8 +24,8 @@ pub use levels::{added_number, level_of, top_bits, word_length, word_of};
 pub use parts::{net_data, net_part};
 pub use values::{good_dual_bus, good_idle, good_type, listed_reason};
 
-// One end of a connection, by the numbers that its writers and its check take from the caller and never from a frame. The level is a number and no
-// enum, since `End` is public and takes any: what is neither 4 nor 2 is refused, with 1.
+// One end of a connection, by the numbers that its writers and its check take from the caller and never from a frame.
+// The level is a number and no enum, since `End` is public and takes any: what is neither 4 nor 2 is refused, with 1.
 #[derive(Clone, Copy, Debug, PartialEq, Eq)]
 pub struct End {
     pub own: u32,
@@ -92,7 +92,7 @@ pub type Check = Result<(), Unfit>;
 
 // Where the net data of a telegram lie.
 #[repr(C)]
-#[derive(Clone, Copy, Debug, PartialEq, Eq)]
+#[derive(Clone, Copy, Debug, Default, PartialEq, Eq)]
 pub struct Part {
     pub start: u32,
     pub count: u32,

@@ -10,10 +10,8 @@ use crate::layout::{header_length, length_suits};
 use crate::levels::{level_of, word_length};
 use ground::byte;
 
-// What is no telegram has no net data.
-const NOWHERE: Part = Part { start: 0, count: 0 };
-
-// Where the net data of a telegram start and how many there are: after the header and before the check word. Both are 0 for bytes that are no telegram's.
+// Where the net data of a telegram start and how many there are: after the header and before the check word. Both are 0
+// for bytes that are no telegram's.
 #[tactic(auto, using(ground::specs::Choice::tests), unfolding(crate::specs::NetData::net_part))]
 pub fn net_part(telegram: &[u8]) -> Part
     ensures { result ≡ net_part telegram.now }
@@ -28,7 +26,7 @@ pub fn net_part(telegram: &[u8]) -> Part
                 count: (length - header - word_length(level)) as u32,
             }
         }
-        _ => NOWHERE,
+        _ => Part::default(),
     }
 }
 

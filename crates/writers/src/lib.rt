@@ -1,4 +1,5 @@
-// One writer for each of the seven telegrams of SUBSET-057 5.2, onto a lent buffer. What a telegram is, and what a writer does, is said in crates/telegram/specs.
+// One writer for each of the seven telegrams of SUBSET-057 5.2, onto a lent buffer. What a telegram is, and what a
+// writer does, is said in crates/telegram/specs.
 #![tactic(auto)]
 
 mod put;

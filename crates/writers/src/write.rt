@@ -1,5 +1,6 @@
-// One writer for each telegram. Each writes at the front of the lent buffer and leaves the bytes behind the telegram as they were; when it refuses, it
-// leaves the whole buffer as it was.
+// One writer for each telegram. Each writes at the front of the lent buffer and leaves the bytes behind the telegram as
+// they were; when it refuses, it leaves the whole buffer as it was. Types, reasons and levels are numbers, as C hands
+// them over: any may come, and what is not allowed is refused.
 ghost use Rattle.std.specs.Prelude.{◌≡◌, ◌+◌, ◌<◌, ◌≤◌, [], ◌∷◌, true, length};
 ghost use Rattle.telegram.specs.Levels.{word_length};
 ghost use Rattle.telegram.specs.Layout.{layout, field_bytes};

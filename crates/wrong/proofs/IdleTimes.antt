@@ -36,6 +36,7 @@ use Rattle.demands.specs.IdleTimes.{Declares}
 use Rattle.demands.proofs.DamagedConnect.{of_levels}
 use Rattle.demands.proofs.Worked.{idle_time_answers}
 use Rattle.demands.proofs.IdleTimes.{demand_2_idle_times}
+use Rattle.link.proofs.Facts.{unnamed}
 use Rattle.wrong.proofs.OtherTables.{good_version_holds}
 use Rattle.wrong.specs.IdleTimes.{Rule, declaring, DeclaringByOurRuleIsOurs, AsThePapersSay, NoOtherRule, with500, with500_at2, number_beside, zero_is_none, unwritable, partners_time, PartnersTimeIsShutOut, WrongIdleTimesAreShutOut}
 
@@ -185,6 +186,8 @@ wrong_idle_times_are_shut_out =
       confirms_with_500 = λ asks d. let e : ◌≡◌ {A = ℕ} 500 1000 = (no_other_rule asks with500 d).1.none 4 refl in omega arith;
       level_2_with_500 = λ d. let e : ◌≡◌ {A = ℕ} 500 1000 = (no_other_rule with500_at2 with500_at2 d).0.none 2 refl in omega arith;
       number_beside_the_flag = λ beside other d. other ((no_other_rule (number_beside beside) (number_beside beside) d).0.none 4 refl);
+      ours_reads_the_flag = record { flag_0 = unnamed.flag_0; flag_else = unnamed.flag_else };
+      flag_not_read = λ d. let e : ◌≡◌ {A = ℕ} 0 1 = ap (λ (i : Option ℕ). unwrap_or i 1) (d.flag_0 0) in omega arith;
       zero_taken_for_none = λ d. let e : ◌≡◌ {A = ℕ} 1000 0 = (no_other_rule zero_is_none zero_is_none d).0.named 4 0 refl (lit≤ tt) refl in omega arith;
       refusing_where_none_is_named = λ d. let e : ◌≡◌ {A = ℕ} 65535 1000 = (no_other_rule unwritable unwritable d).0.none 4 refl in omega arith;
       partners_time_holds = partners_time_is_shut_out;

@@ -7,6 +7,7 @@ use Rattle.ground.specs.Choice.{pick}
 use Rattle.telegram.specs.Ends.{is_level}
 use Rattle.telegram.specs.Values.{good_idle}
 use Rattle.telegram.specs.Fields.{idle_time_of}
+use Rattle.link.specs.Plain.{idle_time_by}
 use Rattle.link.specs.Steps.{declared_by}
 use Rattle.link.specs.declared.Record.{Record}
 use Rattle.node.specs.declared.Head.{Head}
@@ -64,12 +65,27 @@ with500_at2 l i = pick (eqb l 2) (with500 l i) (declared_by i)
 abbrev pub Level2With500IsShutOut : Type 0
 Level2With500IsShutOut = Demand2IdleTimes (declaring with500_at2 with500_at2) → ⊥
 
--- The flag of a call from C is not looked at: where it names none, the number beside it is declared, whichever that is but 1,000 itself.
+-- Where none is named, a number of its own is declared, whichever it is but 1,000.
 abbrev pub number_beside : ℕ → Rule
 number_beside beside l i = unwrap_or i beside
 
 abbrev pub NumberBesideTheFlagIsShutOut : Type 0
 NumberBesideTheFlagIsShutOut = (beside : ℕ) → (beside ≢ 1000) → Demand2IdleTimes (declaring (number_beside beside) (number_beside beside)) → ⊥
+
+-- The flag and the number beside it in a call from C, read as an idle time that is named or not.
+pub record ReadsTheFlag (read : ℕ → ℕ → Option ℕ) : Type 0 where
+  pub flag_0 : (beside : ℕ) → read 0 beside ≡ None
+  pub flag_else : (flag time : ℕ) → (flag ≢ 0) → read flag time ≡ Some time
+
+abbrev pub OursReadsTheFlag : Type 0
+OursReadsTheFlag = ReadsTheFlag idle_time_by
+
+-- The flag is not looked at: the number beside it is named.
+abbrev pub number_read : ℕ → ℕ → Option ℕ
+number_read flag beside = Some beside
+
+abbrev pub FlagNotReadIsShutOut : Type 0
+FlagNotReadIsShutOut = ReadsTheFlag number_read → ⊥
 
 -- 0 that is named is taken for none named.
 abbrev pub zero_is_none : Rule
@@ -105,6 +121,8 @@ pub record WrongIdleTimesAreShutOut : Type 0 where
   pub confirms_with_500 : ConfirmsWith500AreShutOut
   pub level_2_with_500 : Level2With500IsShutOut
   pub number_beside_the_flag : NumberBesideTheFlagIsShutOut
+  pub ours_reads_the_flag : OursReadsTheFlag
+  pub flag_not_read : FlagNotReadIsShutOut
   pub zero_taken_for_none : ZeroTakenForNoneIsShutOut
   pub refusing_where_none_is_named : RefusingWhereNoneIsNamedIsShutOut
   pub partners_time_holds : PartnersTimeIsShutOut
