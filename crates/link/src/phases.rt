@@ -14,6 +14,7 @@ pub(crate) enum Phase {
 }
 
 // Their numbers, as a record has them.
+// By their numbers, for whoever reads or fills a record.
 pub const CLOSED: u32 = Phase::Closed as u32;
 
 pub const CONFIRM_AWAITED: u32 = Phase::ConfirmAwaited as u32;
