@@ -17,7 +17,7 @@ pub(crate) fn after(gap: u32) -> u64 {
     THEN + u64::from(gap)
 }
 
-// The phases by their numbers in a record.
+// The phases by their numbers in a record: to who calls link a phase is a number, and its `Phase` is its own.
 #[derive(Clone, Copy, Debug, PartialEq, Eq)]
 pub(crate) enum Phase {
     Closed = link::CLOSED as isize,

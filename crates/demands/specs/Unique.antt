@@ -115,7 +115,7 @@ pub record Telegram : Type 0 where
   pub is_known : (kind : Kind) → Unique (λ (b : Bool). b ≡ known kind)
   -- src/values.rt: the values that fields may have
   pub good_idle : (time : ℕ) → Unique (λ (b : Bool). b ≡ good_idle time)
-  pub good_type : (kind : ℕ) → Unique (λ (b : Bool). b ≡ good_type kind)
+  pub good_type : (new_setup : ℕ) → Unique (λ (b : Bool). b ≡ good_type new_setup)
   pub listed_reason : (reason : ℕ) → Unique (λ (b : Bool). b ≡ listed_reason reason)
   pub good_dual_bus : (bus : ℕ) → Unique (λ (b : Bool). b ≡ good_dual_bus bus)
   -- src/layout.rt: how many net data, and which lengths suit a kind and the bus

@@ -190,7 +190,8 @@ fn idle_step(record: Record, own: u32, time: u64, out: &mut [u8]) -> Step
     written_step(written, record, r, Telegram::Idle, Event::Nothing)
 }
 
-// A closing: the disconnect carries the number from before it, and desires a new set-up where it is not final.
+// A closing by a verdict: the disconnect carries the number from before it, and desires a new set-up where it is not
+// final. `close` (steps.rt) stays beside it: its caller gives type and text, here both follow.
 #[tactic(auto, unfolding(ground::specs::Choice::pick))]
 fn close_step(record: Record, own: u32, reason: u32, last: bool, out: &mut [u8]) -> Step
     ensures { (result ≡ writing_step (answer_of (writes_disconnect (end_of «record» own) «record».sending (pick last 0 1) reason [] out.old)) «record» (closed_by last «record») 5 (Event.Closed reason last)) × (out.new ≡ left_by (writes_disconnect (end_of «record» own) «record».sending (pick last 0 1) reason [] out.old) out.old) }

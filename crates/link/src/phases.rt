@@ -13,8 +13,7 @@ pub(crate) enum Phase {
     FinallyClosed = 6,
 }
 
-// Their numbers, as a record has them.
-// By their numbers, for whoever reads or fills a record.
+// Their numbers, for whoever reads or fills a record.
 pub const CLOSED: u32 = Phase::Closed as u32;
 
 pub const CONFIRM_AWAITED: u32 = Phase::ConfirmAwaited as u32;

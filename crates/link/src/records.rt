@@ -21,6 +21,7 @@ pub(crate) fn end_of(record: Record, own: u32) -> End
     }
 }
 
+// This and the next ask of a number and not of a `Phase`: a caller's record may have any.
 #[tactic(auto, using(ground::specs::Choice::tests), unfolding(crate::specs::Records::is_phase))]
 fn is_phase(phase: u32) -> bool
     ensures { result ≡ is_phase phase }

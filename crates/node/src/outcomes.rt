@@ -61,7 +61,8 @@ pub fn net_data(telegram: &[u8], event: Event) -> &[u8]
     telegram.get(start..end).unwrap_or(&[])
 }
 
-// The outcome as plain numbers, for C: of data, where they lie in the telegram received.
+// The outcome as plain numbers, for C: of data, where they lie in the telegram received. The event is taken apart here
+// too, by `let .. else`, since the scope names that form for the calls.
 #[tactic(auto, unfolding(crate::specs::Plain::plain))]
 impl From<Outcome> for PlainOutcome {
     ghost from_gives = { λ outcome numbers. numbers ≡ plain outcome };

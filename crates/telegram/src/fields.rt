@@ -47,7 +47,7 @@ pub fn version_y(telegram: &[u8]) -> u32
     byte(telegram, 9) as u32
 }
 
-// Of an authentication or its acknowledgement.
+// Of an authentication or its acknowledgement: where a request has its random number, but another field.
 pub fn authentication_number(telegram: &[u8]) -> u32
     ensures { result ≡ authentication_of telegram.now }
 {

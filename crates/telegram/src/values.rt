@@ -10,12 +10,12 @@ pub fn good_idle(time: u32) -> bool
     time <= 65500 && time % 100 == 0
 }
 
-// Whether a disconnect's type is 0, final, or 1, not final.
+// Whether a disconnect's type is 0, final, or 1, not final. It is asked of the number that a caller or a telegram gives.
 #[tactic(auto, using(ground::specs::Choice::tests), unfolding(crate::specs::Values::good_type))]
-pub fn good_type(kind: u32) -> bool
-    ensures { result ≡ good_type kind }
+pub fn good_type(new_setup: u32) -> bool
+    ensures { result ≡ good_type new_setup }
 {
-    kind <= 1
+    new_setup <= 1
 }
 
 // Whether 5.2.5.9 lists a disconnect's reason.

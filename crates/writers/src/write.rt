@@ -67,6 +67,7 @@ fn put_telegram(out: &mut [u8], end: End, number: u32, low: u32, fields: &[u8], 
     ensures { (result ≡ length (sealed end number (body end.level number low fields.now net.now))) × (out.new ≡ left_by (wrote (sealed end number (body end.level number low fields.now net.now))) out.old) }
 {
     let command = top_bits(end.level) * 64 + low;
+    // The lowest byte: `to_le_bytes()[0]` would say no more.
     let head = [(number % 256) as u8, command as u8];
     let behind = 2 + fields.len();
     let n = behind + net.len();
@@ -205,6 +206,7 @@ pub fn write_disconnect(
     ensures { (result ≡ answer_of (writes_disconnect end number new_setup reason text.now out.old)) × (out.new ≡ left_by (writes_disconnect end number new_setup reason text.now out.old) out.old) }
 {
     let allowed = disconnect_allowed(new_setup, reason, text.len(), end.level);
+    // The lowest bytes, as above.
     let fields = [(new_setup % 256) as u8, (reason % 256) as u8];
     told(put(out, end, number, DISCONNECT, allowed, &fields, text))
 }

@@ -9,7 +9,7 @@ use Prim.Native.Nat.{ℕ, ◌%◌, ◌≤◌}
 use native.Mathlib.Omega.{arith}
 use lib.ListN.{replicate, get_or}
 use lib.Dec.{lit<, lit≤}
-use Rattle.std.specs.Prelude.{Option, Some, None}
+use Rattle.std.specs.Prelude.{Option, Some, None, unwrap_or}
 use Rattle.ground.specs.Choice.{pick}
 use Rattle.telegram.specs.Levels.{word_length}
 use Rattle.telegram.specs.Ends.{is_level, in_range, mirrored}

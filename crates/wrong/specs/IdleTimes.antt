@@ -1,5 +1,6 @@
 -- Links that declare another idle time than ours, and of each the statement that the numbers of demand 2 shut it out. `Demand2IdleTimes` does not name
--- `declared_by`: a fault in that definition and in the code alike is such a link, and is shut out too. proofs/IdleTimes.antt proves them as
+-- `declared_by`: a fault in that definition and in the code alike is such a link, and is shut out too. A link is given a time that is named or none; a fault in
+-- how the flag of a call from C is read is shut out by what that reading has to meet, `ReadsTheFlag`. proofs/IdleTimes.antt proves them as
 -- `wrong_idle_times_are_shut_out`.
 -- Assumes nothing.
 use Rattle.std.specs.Prelude.{◌≡◌, true, false, List, ℕ, ◌%◌, ◌≤◌, eqb, ◌≢◌, Option, Some, None, unwrap_or}
