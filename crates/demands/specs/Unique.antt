@@ -3,7 +3,7 @@
 -- result and, of what was lent with `&mut`, any value left: x for `x.now` and `x.old`, x' for `x.new`. No public function has a `requires`, so the fields
 -- speak of all values of the arguments. proofs/Unique.antt proves `Uniqueness` under the same name in snake case. The gate compares each field with its source.
 -- Assumes nothing.
-use Rattle.std.specs.Prelude.{◌≡◌, Bool, List, ◌++◌, ℕ, Option, get_or, Result}
+use Rattle.std.specs.Prelude.{◌≡◌, ◌%◌, Bool, List, ◌++◌, ℕ, Option, get_or, Result}
 use Rattle.std.specs.Int.Bits.{bit_xor}
 use Rattle.ground.specs.Numbers.{bytes_at}
 use Rattle.digits.specs.Digits.{picked}
@@ -86,8 +86,8 @@ pub record RowsOf : Type 0 where
 
 pub record Digits : Type 0 where
   -- src/lib.rt: the number at a place of the rows that a width gives, and what the low and the high digits of a number leave
-  pub low_at : (low : List ℕ) (place : ℕ) → Unique (λ (r : ℕ). r ≡ get_or low place 0)
-  pub high_at : (high : List ℕ) (place : ℕ) → Unique (λ (r : ℕ). r ≡ get_or high place 0)
+  pub low_at : (low : List ℕ) (place : ℕ) → Unique (λ (r : ℕ). r ≡ get_or low (place % 320) 0)
+  pub high_at : (high : List ℕ) (place : ℕ) → Unique (λ (r : ℕ). r ≡ get_or high (place % 384) 0)
   pub low : (R : RowsOf) (v : ℕ) → Unique (λ (r : ℕ). r ≡ picked R.low 5 v)
   pub high : (R : RowsOf) (y v : ℕ) → Unique (λ (r : ℕ). r ≡ bit_xor y (picked R.high 6 v))
 

@@ -3,7 +3,7 @@
 // proofs/Digits how a loop comes to their exclusive-or.
 #![tactic(auto)]
 
-ghost use Rattle.std.specs.Prelude.{◌≡◌, ◌<◌, List, ℕ, get_or};
+ghost use Rattle.std.specs.Prelude.{◌≡◌, ◌%◌, List, ℕ, get_or};
 ghost use Rattle.std.specs.Int.Bits.{bit_xor};
 ghost use Rattle.digits.specs.Digits.{picked};
 
@@ -14,12 +14,12 @@ pub trait Rows {
 
     ghost high: { List ℕ };
 
-    // The number at a place, 0 past the end.
+    // The number at a place; past the end the places begin anew.
     fn low_at(place: u64) -> u64
-        ensures { result ≡ get_or low place 0 };
+        ensures { result ≡ get_or low (place % 320) 0 };
 
     fn high_at(place: u64) -> u64
-        ensures { result ≡ get_or high place 0 };
+        ensures { result ≡ get_or high (place % 384) 0 };
 }
 
 // What the five lowest digits of `v` leave. This loop and that of `high` stay two: one for both would be given a

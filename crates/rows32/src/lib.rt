@@ -2,8 +2,8 @@
 // place in its row of 64 numbers.
 //
 // A row is read by a `match`, which compiles to a read of constant memory. A constant that is read at a place would be
-// laid out on the stack each time: it is read so behind all places only, in an arm that no place reaches and that is
-// not in the compiled code.
+// laid out on the stack each time: it is read so past the last place only, in an arm that the loops over the rows never
+// reach and that is not in the compiled code.
 #![tactic(auto)]
 
 ghost use Rattle.rows32.specs.Rows as rows32;
@@ -1051,8 +1051,7 @@ impl Rows for Rows32 {
             317 => 0x414D5F9400000000,
             318 => 0x64A20BF600000000,
             319 => 0x7807382800000000,
-            _ if place < 320 => LOW[place as usize],
-            _ => 0,
+            _ => LOW[(place % 320) as usize],
         }
     }
 
@@ -1442,8 +1441,7 @@ impl Rows for Rows32 {
             381 => 0x8BE1892B00000000,
             382 => 0x52965DE900000000,
             383 => 0x1A44EE5700000000,
-            _ if place < 384 => HIGH[place as usize],
-            _ => 0,
+            _ => HIGH[(place % 384) as usize],
         }
     }
 }

@@ -2,8 +2,8 @@
 // place in its row of 64 numbers.
 //
 // A row is read by a `match`, which compiles to a read of constant memory. A constant that is read at a place would be
-// laid out on the stack each time: it is read so behind all places only, in an arm that no place reaches and that is
-// not in the compiled code.
+// laid out on the stack each time: it is read so past the last place only, in an arm that the loops over the rows never
+// reach and that is not in the compiled code.
 #![tactic(auto)]
 
 ghost use Rattle.rows48.specs.Rows as rows48;
@@ -1051,8 +1051,7 @@ impl Rows for Rows48 {
             317 => 0xEFEF05258F380000,
             318 => 0x94C024C4A52F0000,
             319 => 0xBDDAC46443220000,
-            _ if place < 320 => LOW[place as usize],
-            _ => 0,
+            _ => LOW[(place % 320) as usize],
         }
     }
 
@@ -1442,8 +1441,7 @@ impl Rows for Rows48 {
             381 => 0xC3585F915EFA0000,
             382 => 0x85D4FC3EEDF40000,
             383 => 0x9D40C0DBA950000,
-            _ if place < 384 => HIGH[place as usize],
-            _ => 0,
+            _ => HIGH[(place % 384) as usize],
         }
     }
 }
