@@ -3,11 +3,12 @@
 -- Assumes nothing.
 use mathlib.Core.Path.{◌≡◌, refl, sym, ap, ap₂, ◌∙◌, subst}
 use mathlib.Core.List.{List}
-use Prim.Native.Nat.{ℕ, ◌+◌, ◌*◌, ◌/◌, ◌%◌, ◌^◌, ◌≤◌, ◌<◌}
-use native.Mathlib.Nat.{add_comm, add-zero, mul_assoc, mul_right_comm, mul-mod_left, mod-lt, mod-eq_of_lt, lt_of_lt_of_le}
+use Prim.Native.Nat.{ℕ, ◌+◌, ◌*◌, ◌/◌, ◌%◌, ◌^◌, ◌≤◌, ◌<◌, min}
+use native.Mathlib.Nat.{add_comm, add-zero, zero-add, mul_assoc, mul_right_comm, mul-mod_left, mod-lt, mod-eq_of_lt, lt_of_lt_of_le}
 use native.Mathlib.Omega.{arith}
 use lib.Pow.{pow_pos, pow-add, pow_mono, shl_lt, shr_lt, shl-shr, shr-shr, mod-pow-add, split}
-use lib.ListN.{length, take, drop, length-take, take-append-drop}
+use lib.ListN.{length, take, drop, get_or, length-take, length-drop, take-append-drop}
+use lib.Seq.{take-add}
 use lib.Bits.{bit_xor, xor_comm, xor_lt, xor_shifted}
 use Rattle.digits.specs.Digits.{picked}
 use Rattle.checkword.specs.Bytes.{Bytes, number}
@@ -16,10 +17,10 @@ use Rattle.checkword.specs.Word.{run}
 use Rattle.checkword.specs.Rows.{Test}
 use Rattle.checkword.specs.Turn.{Taken}
 use Rattle.checkword.proofs.Xor.{xor_assoc, xor_mul}
-use Rattle.checkword.proofs.Bytes.{number_lt, bytes_take}
+use Rattle.checkword.proofs.Bytes.{number_lt, bytes_of_holds, bytes_hold, bytes_take, bytes_drop}
 use Rattle.checkword.proofs.Run.{run_append, run_lt}
 use Rattle.checkword.proofs.Remainder.{Same, same_refl, same_eq, same_both, run_same, same_unique}
-use Rattle.checkword.proofs.Rows.{leaves, picked_leaves, leaves_same, leaves_lt, low_kept, high_kept}
+use Rattle.checkword.proofs.Rows.{Kept, leaves, picked_leaves, leaves_same, leaves_lt, low_kept, high_kept}
 
 module _ (w g : ℕ) (good : Generator w g) where
   turn : (bs : List ℕ) (r v : ℕ) → 8 * length bs ≤ 64 → r < 2 ^ w → Bytes bs → v ≡ bit_xor (r * 2 ^ (8 * length bs) / 2 ^ w) (number bs)
@@ -75,52 +76,65 @@ module _ (w g : ℕ) (good : Generator w g) where
           ∙ ap (λ (x : ℕ). bit_xor x (number bs * 2 ^ w))
           (xor_comm y (top * 2 ^ w) ∙ xor_shifted top w y (mod-lt up (pow_pos w)) ∙ split up w)
 
--- The same as the code has it, with the register x at the top of 64 bits: the n bytes from place i on go in.
+  -- The same as the code has it, with the register x at the top of 64 bits: the n bytes from place i on go in.
+  module _ (s : ℕ) (room : w + s ≡ 64) (low high : List ℕ) (kept_low : Kept w g s w low 5) (kept_high : Kept w g s (w + 30) high 6) where
+    aligned : (bs : List ℕ) (r x v y m : ℕ) → 8 * length bs ≡ m → m ≤ 64 → r < 2 ^ w → Bytes bs → x ≡ r * 2 ^ s
+        → v ≡ bit_xor (x * 2 ^ m / 2 ^ 64) (number bs) → y ≡ x * 2 ^ m % 2 ^ 64
+        → bit_xor (bit_xor y (picked high 6 (v / 2 ^ 30))) (picked low 5 (v % 2 ^ 30)) ≡ run w g r bs * 2 ^ s
+    aligned bs r x v y m c l hr h ex ev ey =
+        ap₂ bit_xor (ap₂ bit_xor (ey ∙ rest) (picked_leaves w g s (w + 30) high 6 kept_high 6 (v / 2 ^ 30) (omega arith)))
+        (picked_leaves w g s w low 5 kept_low 5 (v % 2 ^ 30) (omega arith))
+        ∙ ap (λ (n : ℕ). bit_xor n (leaves w g w 5 (v % 2 ^ 30) * 2 ^ s))
+        (sym (xor_mul (r * 2 ^ (8 * length bs) % 2 ^ w) (leaves w g (w + 30) 6 (v / 2 ^ 30)) s))
+        ∙ sym (xor_mul (bit_xor (r * 2 ^ (8 * length bs) % 2 ^ w) (leaves w g (w + 30) 6 (v / 2 ^ 30))) (leaves w g w 5 (v % 2 ^ 30)) s)
+        ∙ ap (λ (n : ℕ). n * 2 ^ s) (turn bs r v (omega (arith, c)) hr h (ev ∙ ap (λ (n : ℕ). bit_xor n (number bs)) top))
+      where
+        up : x * 2 ^ m ≡ r * 2 ^ (8 * length bs) * 2 ^ s
+        up = ap₂ (λ (a n : ℕ). a * 2 ^ n) ex (sym c) ∙ mul_right_comm r (2 ^ s) (2 ^ (8 * length bs))
+
+        top : x * 2 ^ m / 2 ^ 64 ≡ r * 2 ^ (8 * length bs) / 2 ^ w
+        top =
+            ap₂ (λ (a n : ℕ). a / 2 ^ n) up (sym room ∙ add_comm w s) ∙ sym (shr-shr (r * 2 ^ (8 * length bs) * 2 ^ s) s w)
+            ∙ ap (λ (a : ℕ). a / 2 ^ w) (shl-shr (r * 2 ^ (8 * length bs)) s)
+
+        rest : x * 2 ^ m % 2 ^ 64 ≡ r * 2 ^ (8 * length bs) % 2 ^ w * 2 ^ s
+        rest =
+            ap₂ (λ (a n : ℕ). a % 2 ^ n) up (sym room) ∙ mod-pow-add (r * 2 ^ (8 * length bs) * 2 ^ s) w s
+            ∙ ap₂ (λ (a b : ℕ). a % 2 ^ w * 2 ^ s + b) (shl-shr (r * 2 ^ (8 * length bs)) s) (mul-mod_left (r * 2 ^ (8 * length bs)) (2 ^ s))
+            ∙ add-zero (r * 2 ^ (8 * length bs) % 2 ^ w * 2 ^ s)
+
+    -- the turns of a loop over the bytes of a that has come to the register x at place i
+    module _ (r : ℕ) (a : List ℕ) (hr : r < 2 ^ w) (small : (k : ℕ) → get_or a k 0 < 256) (i x : ℕ) (so_far : x ≡ run w g r (take i a) * 2 ^ s) where
+      pub turned : (n v y : ℕ) → n ≤ 8 → i + n ≤ length a → v ≡ bit_xor (x * 2 ^ (8 * n) / 2 ^ 64) (number (take n (drop i a))) → y ≡ x * 2 ^ (8 * n) % 2 ^ 64
+          → bit_xor (bit_xor y (picked high 6 (v / 2 ^ 30))) (picked low 5 (v % 2 ^ 30)) ≡ run w g r (take (i + n) a) * 2 ^ s
+      turned n v y few fits ev ey =
+          let all : Bytes a = bytes_of_holds a small in
+          let size : length (take n (drop i a)) ≡ n = length-take n (drop i a) ∙ ap (min n) (length-drop i a) ∙ omega arith in
+          aligned (take n (drop i a)) (run w g r (take i a)) x v y (8 * n) (ap (λ (k : ℕ). 8 * k) size) (omega arith)
+          (run_lt w g good (take i a) r hr (bytes_take i a all)) (bytes_take n (drop i a) (bytes_drop i a all)) so_far ev ey
+          ∙ ap (λ (k : ℕ). k * 2 ^ s) (sym (run_append w g r (take i a) (take n (drop i a))) ∙ ap (run w g r) (sym (take-add i n a)))
+
+-- The turns of the code: over the bytes that are left, with the rows of a width.
 module _ (w g s : ℕ) (low high : List ℕ) (test : Test w g s low high) where
-  aligned : (bs : List ℕ) (r x v y m : ℕ) → 8 * length bs ≡ m → m ≤ 64 → r < 2 ^ w → Bytes bs → x ≡ r * 2 ^ s
-      → v ≡ bit_xor (x * 2 ^ m / 2 ^ 64) (number bs) → y ≡ x * 2 ^ m % 2 ^ 64
-      → bit_xor (bit_xor y (picked high 6 (v / 2 ^ 30))) (picked low 5 (v % 2 ^ 30)) ≡ run w g r bs * 2 ^ s
-  aligned bs r x v y m c l hr h ex ev ey =
-      ap₂ bit_xor (ap₂ bit_xor (ey ∙ rest) (picked_leaves w g s (w + 30) high 6 (high_kept w g s low high test) 6 (v / 2 ^ 30) (omega arith)))
-      (picked_leaves w g s w low 5 (low_kept w g s low high test) 5 (v % 2 ^ 30) (omega arith))
-      ∙ ap (λ (n : ℕ). bit_xor n (leaves w g w 5 (v % 2 ^ 30) * 2 ^ s))
-      (sym (xor_mul (r * 2 ^ (8 * length bs) % 2 ^ w) (leaves w g (w + 30) 6 (v / 2 ^ 30)) s))
-      ∙ sym (xor_mul (bit_xor (r * 2 ^ (8 * length bs) % 2 ^ w) (leaves w g (w + 30) 6 (v / 2 ^ 30))) (leaves w g w 5 (v % 2 ^ 30)) s)
-      ∙ ap (λ (n : ℕ). n * 2 ^ s) (turn w g test.good bs r v (omega (arith, c)) hr h (ev ∙ ap (λ (n : ℕ). bit_xor n (number bs)) top))
-    where
-      up : x * 2 ^ m ≡ r * 2 ^ (8 * length bs) * 2 ^ s
-      up = ap₂ (λ (a n : ℕ). a * 2 ^ n) ex (sym c) ∙ mul_right_comm r (2 ^ s) (2 ^ (8 * length bs))
-
-      top : x * 2 ^ m / 2 ^ 64 ≡ r * 2 ^ (8 * length bs) / 2 ^ w
-      top =
-          ap₂ (λ (a n : ℕ). a / 2 ^ n) up (sym test.room ∙ add_comm w s) ∙ sym (shr-shr (r * 2 ^ (8 * length bs) * 2 ^ s) s w)
-          ∙ ap (λ (a : ℕ). a / 2 ^ w) (shl-shr (r * 2 ^ (8 * length bs)) s)
-
-      rest : x * 2 ^ m % 2 ^ 64 ≡ r * 2 ^ (8 * length bs) % 2 ^ w * 2 ^ s
-      rest =
-          ap₂ (λ (a n : ℕ). a % 2 ^ n) up (sym test.room) ∙ mod-pow-add (r * 2 ^ (8 * length bs) * 2 ^ s) w s
-          ∙ ap₂ (λ (a b : ℕ). a % 2 ^ w * 2 ^ s + b) (shl-shr (r * 2 ^ (8 * length bs)) s) (mul-mod_left (r * 2 ^ (8 * length bs)) (2 ^ s))
-          ∙ add-zero (r * 2 ^ (8 * length bs) % 2 ^ w * 2 ^ s)
-
   -- a register with s zeros at its end is what stands above them, moved up
   pub raised : (x : ℕ) → x % 2 ^ s ≡ 0 → x ≡ x / 2 ^ s * 2 ^ s
   raised x free = sym (split x s) ∙ ap (λ (n : ℕ). x / 2 ^ s * 2 ^ s + n) free ∙ add-zero (x / 2 ^ s * 2 ^ s)
 
   -- the register that a turn leaves
-  turned : {x v y : ℕ} {a behind : List ℕ} (t : Taken x a v y behind) → x < 2 ^ 64 → x % 2 ^ s ≡ 0 → Bytes a
+  after_taken : {x v y : ℕ} {a behind : List ℕ} (t : Taken x a v y behind) → x < 2 ^ 64 → x % 2 ^ s ≡ 0 → Bytes a
       → bit_xor (bit_xor y (picked high 6 (v / 2 ^ 30))) (picked low 5 (v % 2 ^ 30)) ≡ run w g (x / 2 ^ s) (take t.count a) * 2 ^ s
-  turned {x} {v} {y} {a} t fits free all =
-      let size : length (take t.count a) ≡ t.count = length-take t.count a ∙ omega (arith, t.fits) in
+  after_taken {x} {v} {y} {a} t fits free all =
       let below : x / 2 ^ s < 2 ^ w = shr_lt w s (subst (λ (n : ℕ). x < 2 ^ n) (sym test.room) fits) in
-      aligned (take t.count a) (x / 2 ^ s) x v y (8 * t.count) (ap (λ (k : ℕ). 8 * k) size) (omega (arith, t.few)) below (bytes_take t.count a all)
-      (raised x free) t.top t.rest
+      turned w g test.good s test.room low high (low_kept w g s low high test) (high_kept w g s low high test) (x / 2 ^ s) a below (bytes_hold a all) 0 x
+      (raised x free) t.count v y t.few (omega (arith, t.fits)) t.top t.rest
+      ∙ ap (λ (n : ℕ). run w g (x / 2 ^ s) (take n a) * 2 ^ s) (zero-add t.count)
 
   -- A turn leaves s zeros at the end of the register, from which the bytes behind it come to what all of them come to from the register before it.
   pub goes_on : {x v y x' : ℕ} {a behind : List ℕ} → Taken x a v y behind → x < 2 ^ 64 → x % 2 ^ s ≡ 0 → Bytes a
       → x' ≡ bit_xor (bit_xor y (picked high 6 (v / 2 ^ 30))) (picked low 5 (v % 2 ^ 30))
       → (x' % 2 ^ s ≡ 0) × (run w g (x' / 2 ^ s) behind ≡ run w g (x / 2 ^ s) a)
   goes_on {x} {v} {y} {x'} {a} {behind} t fits free all e =
-      let e' : x' ≡ run w g (x / 2 ^ s) (take t.count a) * 2 ^ s = e ∙ turned t fits free all in (
+      let e' : x' ≡ run w g (x / 2 ^ s) (take t.count a) * 2 ^ s = e ∙ after_taken t fits free all in (
         ap (λ (n : ℕ). n % 2 ^ s) e' ∙ mul-mod_left (run w g (x / 2 ^ s) (take t.count a)) (2 ^ s),
         ap₂ (run w g) (ap (λ (n : ℕ). n / 2 ^ s) e' ∙ shl-shr (run w g (x / 2 ^ s) (take t.count a)) s) t.left
             ∙ sym (run_append w g (x / 2 ^ s) (take t.count a) (drop t.count a)) ∙ ap (run w g (x / 2 ^ s)) (take-append-drop t.count a),
