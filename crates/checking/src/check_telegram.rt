@@ -91,10 +91,10 @@ pub fn checked(end: End, expected: u32, telegram: &[u8]) -> Check
     ensures { result ≡ check_of end expected telegram.now }
 {
     if !in_range(end) {
-        return Err(Unfit::Refused(Refusal::OutOfRange));
+        return Err(Unfit::Refused(Refusal::OutOfRange as u32));
     }
     if !on_bus(telegram.len()) {
-        return Err(Unfit::Refused(Refusal::BadTelegram));
+        return Err(Unfit::Refused(Refusal::BadTelegram as u32));
     }
     first_failing(end, expected, telegram).map_err(Unfit::Failed)
 }
@@ -107,6 +107,6 @@ pub fn answer_number(check: Check) -> u32
     match check {
         Ok(()) => 0,
         Err(Unfit::Failed(_)) => 100,
-        Err(Unfit::Refused(refusal)) => refusal as u32,
+        Err(Unfit::Refused(number)) => number,
     }
 }

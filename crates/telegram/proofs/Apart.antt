@@ -28,8 +28,6 @@ use Rattle.telegram.specs.declared.End.{End}
 use Rattle.telegram.specs.declared.Kind.{Kind}
 use Rattle.telegram.specs.declared.Kind.TheVariants.{Request, Confirm, Authentication, Acknowledgement, Disconnect, Idle, Data, Unknown}
 use Rattle.telegram.specs.declared.Clause.{Clause}
-use Rattle.telegram.specs.declared.Refusal.{Refusal}
-use Rattle.telegram.specs.declared.Refusal.TheVariants.{BadTelegram, OutOfRange}
 use Rattle.telegram.proofs.Widths.{width_is, word_some, six, generator_good}
 use Rattle.telegram.proofs.Refusals.{both_true}
 use Rattle.telegram.proofs.ReadBack.{implicit_bytes}
@@ -43,8 +41,8 @@ chosen false x y h p = absurd (h p)
 not_failed : (c : Clause) → Failed c ≡ Passes → ⊥
 not_failed c p = let z : ◌≡◌ {A = ℕ} 0 1 = cc in omega arith
 
-not_refused : (r : Refusal) → Refused r ≡ Passes → ⊥
-not_refused r p = let z : ◌≡◌ {A = ℕ} 0 1 = cc in omega arith
+not_refused : (n : ℕ) → Refused n ≡ Passes → ⊥
+not_refused n p = let z : ◌≡◌ {A = ℕ} 0 1 = cc in omega arith
 
 -- Where no clause fails, every one holds.
 abbrev Hold : List (Bool × Clause) → Type 0
@@ -71,8 +69,8 @@ pub record Passed (e : End) (m : ℕ) (t : List ℕ) : Type 0 where
 pub passed : (e : End) (m : ℕ) (t : List ℕ) → check_of e m t ≡ Passes → Passed e m t
 unfolding check_of
 passed e m t p =
-    let ranged = chosen _ _ _ (not_refused OutOfRange) p in
-    let sized = chosen _ _ _ (not_refused BadTelegram) ranged.1 in
+    let ranged = chosen _ _ _ (not_refused 1) p in
+    let sized = chosen _ _ _ (not_refused 6) ranged.1 in
     let all = hold (clauses e m t) sized.1 in
     record {
       in_range_holds = ranged.0;

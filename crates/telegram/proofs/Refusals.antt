@@ -1,21 +1,25 @@
--- What the writers share: where there is no refusal the telegram has room.
+-- What the writers share: a refusal leaves the buffer as it was, and where there is none the telegram has room.
 -- Assumes nothing.
 use mathlib.Core.Path.{◌≡◌, refl, sym, ◌∙◌}
 use mathlib.Core.Bool.{Bool, true, false}
 use mathlib.Core.Logic.{◌⊎◌, inl, inr}
 use mathlib.Core.List.{List, [], ◌∷◌}
-use Prim.Native.Nat.{ℕ, ◌+◌, ◌≤◌, ◌<◌}
+use Prim.Native.Nat.{ℕ, zero, suc, ◌+◌, ◌≤◌, ◌<◌}
 use native.Mathlib.Omega.{arith}
+use lib.ListN.{length}
 use lib.Dec.{leb, eqb}
 use borrow.Author.Tests.{leb-true, eqb-true, ne_eqb}
 use Rattle.ground.specs.Choice.{pick, all}
 use Rattle.telegram.specs.Levels.{word_length}
 use Rattle.telegram.specs.Commands.{is_data, kind_of, known}
-use Rattle.telegram.specs.Layout.{longest, header, most, suits, field_bytes}
+use Rattle.telegram.specs.Layout.{longest, header, most, on_bus, suits, field_bytes}
 use Rattle.telegram.specs.Ends.{is_level, in_range}
 use Rattle.telegram.specs.Values.{good_idle, good_type, listed_reason}
-use Rattle.telegram.specs.Writers.{refusal, connect_allowed, disconnect_allowed, data_allowed}
+use Rattle.telegram.specs.Telegrams.{body, sealed}
+use Rattle.telegram.specs.Writers.{answer_of, left_by, refusal, unless, connect_allowed, disconnect_allowed, data_allowed}
+use Rattle.telegram.specs.Writers.Outcome.{wrote}
 use Rattle.telegram.specs.declared.End.{End}
+use Rattle.telegram.specs.declared.Written.{Written}
 use Rattle.telegram.specs.declared.Kind.{Kind}
 use Rattle.telegram.specs.declared.Kind.TheVariants.{Request, Disconnect, Data}
 use Rattle.telegram.proofs.Widths.{word_small}
@@ -35,6 +39,29 @@ pub either_true : (a b : Bool) → pick a true b ≡ true → (a ≡ true) ⊎ (
 unfolding pick
 either_true true b e = inl refl
 either_true false b e = inr e
+
+-- the length told and the buffer left by a writer that refuses
+pub refusing : (n : ℕ) (t d : List ℕ) → (n ≡ 0 → ⊥) → (0 ≡ (answer_of (unless n t)).length) × (d ≡ left_by (unless n t) d)
+refusing zero t d h = absurd (h refl)
+refusing (suc n) t d h = (refl, refl)
+
+-- and by one that writes
+pub writing : (n : ℕ) (t d x : List ℕ) (r : ℕ) → n ≡ 0 → (r ≡ length t) × (x ≡ left_by (wrote t) d)
+    → (r ≡ (answer_of (unless n t)).length) × (x ≡ left_by (unless n t) d)
+writing n t d x r z w = rw z w
+
+-- the refusal beside the length is the answer
+answered : (n : ℕ) (t : List ℕ) (r : ℕ) → r ≡ (answer_of (unless n t)).length → ◌≡◌ {A = Written} (record { answer = n; length = r }) (answer_of (unless n t))
+answered zero t r e = rw e
+answered (suc n) t r e = rw e
+
+-- with the refusal and the fields that the definition has
+pub as_defined : (e : End) (number low n m : ℕ) (f g net d x : List ℕ) (r : ℕ) → n ≡ m → f ≡ g
+    → (r ≡ (answer_of (unless n (sealed e number (body e.level number low f net)))).length)
+    × (x ≡ left_by (unless n (sealed e number (body e.level number low f net))) d)
+    → (◌≡◌ {A = Written} (record { answer = n; length = r }) (answer_of (unless m (sealed e number (body e.level number low g net)))))
+    × (x ≡ left_by (unless m (sealed e number (body e.level number low g net))) d)
+as_defined e number low n m f g net d x r p q w = rw (← p, ← q) (answered n (sealed e number (body e.level number low f net)) r w.0, w.1)
 
 -- a telegram without values has no fixed fields
 pub no_fields : (ws : List ℕ) → [] ≡ field_bytes ws []
@@ -100,6 +127,11 @@ data_kind low e =
     rw (ne_eqb low 0 (λ p. omega arith), ne_eqb low 2 (λ p. omega arith), ne_eqb low 3 (λ p. omega arith), ne_eqb low 4 (λ p. omega arith), ne_eqb low 5 (λ p. omega arith), ne_eqb low 6 (λ p. omega arith), e)
 
 -- the lengths that the tests tell
+pub on_bus_room : (n : ℕ) → on_bus n ≡ true → (6 ≤ n) × (n ≤ 244)
+on_bus_room n e =
+    let b = both_true (leb 6 n) (leb n 244) e in
+    (leb-true 6 n b.0, leb-true n 244 b.1)
+
 pub suits_room : (k : Kind) (l n : ℕ) → suits k l n ≡ true → (header k + word_length l ≤ n) × (n ≤ header k + most k l + word_length l)
 suits_room k l n e =
     let b = both_true (leb (header k + word_length l) n) (leb n (header k + most k l + word_length l)) e in

@@ -9,14 +9,11 @@ use Rattle.telegram.specs.Layout.{on_bus, suits, values}
 use Rattle.telegram.specs.Ends.{in_range, receiving}
 use Rattle.telegram.specs.Values.{good_fields}
 use Rattle.telegram.specs.Telegrams.{check_word}
-use Rattle.telegram.specs.Refusals.{refusal_number}
 use Rattle.telegram.specs.declared.End.{End}
 use Rattle.telegram.specs.declared.Kind.{Kind}
 use Rattle.telegram.specs.declared.Kind.TheVariants.{Request, Confirm, Authentication, Acknowledgement, Disconnect, Idle, Data, Unknown}
 use Rattle.telegram.specs.declared.Clause.{Clause}
 use Rattle.telegram.specs.declared.Clause.TheVariants as clause
-use Rattle.telegram.specs.declared.Refusal.{Refusal}
-use Rattle.telegram.specs.declared.Refusal.TheVariants.{OutOfRange, BadTelegram}
 use Rattle.telegram.specs.declared.Unfit.{Unfit}
 use Rattle.telegram.specs.declared.Unfit.TheVariants as unfit
 
@@ -31,9 +28,9 @@ Passes = Ok tt
 abbrev pub Failed : Clause → Check
 Failed c = Err (unfit.Failed c)
 
--- What is not looked at: an end out of range, or bytes that the bus can't carry as a telegram of ours.
-abbrev pub Refused : Refusal → Check
-Refused r = Err (unfit.Refused r)
+-- What is not looked at, by the number of the refusal: an end out of range, or bytes that the bus can't carry as a telegram of ours.
+abbrev pub Refused : ℕ → Check
+Refused n = Err (unfit.Refused n)
 
 -- The command, byte 2.
 abbrev pub command_of : List ℕ → ℕ
@@ -86,10 +83,10 @@ first_failing (c ∷ cs) = pick c.0 (first_failing cs) (Failed c.1)
 
 -- The check: refused with 1 or 6, or the first clause that fails, or passed.
 unfoldable pub check_of : End → ℕ → List ℕ → Check
-check_of e expected t = pick (in_range e) (pick (on_bus (length t)) (first_failing (clauses e expected t)) (Refused BadTelegram)) (Refused OutOfRange)
+check_of e expected t = pick (in_range e) (pick (on_bus (length t)) (first_failing (clauses e expected t)) (Refused 6)) (Refused 1)
 
 -- The number that says what the check found: 0 passes, 1 and 6 refused, 100 failed.
 abbrev pub answer_number : Check → ℕ
 answer_number (Ok u) = 0
 answer_number (Err (unfit.Failed c)) = 100
-answer_number (Err (unfit.Refused r)) = refusal_number r
+answer_number (Err (unfit.Refused n)) = n

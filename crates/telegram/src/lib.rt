@@ -80,11 +80,12 @@ pub enum Clause {
     Word,
 }
 
-// Why a telegram does not pass: the first clause that fails, or why it is not looked at.
+// Why a telegram does not pass: the first clause that fails, or that it is not looked at, by the number of a refusal.
+// Any number may stand there: `answer_number` (checking) tells each as it is.
 #[derive(Clone, Copy, Debug, PartialEq, Eq)]
 pub enum Unfit {
     Failed(Clause),
-    Refused(Refusal),
+    Refused(u32),
 }
 
 // What the check found.

@@ -28,7 +28,6 @@ use Rattle.telegram.specs.Writers.{refusal, connect_allowed, disconnect_allowed,
 use Rattle.telegram.specs.Check.{command_of, check_of, word_agrees, answer_number, Check, Passes, Failed, Refused}
 use Rattle.telegram.specs.declared.End.{End}
 use Rattle.telegram.specs.declared.Clause.TheVariants as clause
-use Rattle.telegram.specs.declared.Refusal.TheVariants.{OutOfRange}
 use Rattle.link.specs.Records.{end_of, record_in_range, is_phase, is_closed, at_rest, fresh_of, become, closed_by}
 use Rattle.link.specs.Times.{wait_over, watch_over, idle_due}
 use Rattle.link.specs.Judged.{row_of, ruled, narrowed, checked_by, judged, passed, expected_now, run_out, run_out_verdict, ticked, good_version, good_number}
@@ -145,7 +144,7 @@ addresses_from_the_frame_are_shut_out frame d = by (in_range framed) refl
         let passes = d.written_passes (mirrored framed) 0 (telegrams.idle (mirrored framed) 0) (idle (replicate 244 0) (rw (mirrored_in_range framed e) refl)) in
         d.at_4 head two 0 1 0 0 (telegrams.idle (mirrored framed) 0) (lit< tt, (lit< tt, bytes_of_bytes 6 _)) are_two refl passes passes
     by false e =
-        fails (Refused OutOfRange) (rw e at (d.written_passes (end9 4) 0 (telegrams.idle (end9 4) 0) idle_of_9)) (λ z. omega arith)
+        fails (Refused 1) (rw e at (d.written_passes (end9 4) 0 (telegrams.idle (end9 4) 0) idle_of_9)) (λ z. omega arith)
 
 -- The idle telegram with the number 0 passes at 0, and at 256 too.
 pub only_byte_1_compared_is_shut_out : OnlyByte1ComparedIsShutOut

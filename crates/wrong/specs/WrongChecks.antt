@@ -11,12 +11,11 @@ use Rattle.telegram.specs.Check.{used_for, clauses, first_failing, check_of, Pas
 use Rattle.telegram.specs.declared.End.{End}
 use Rattle.telegram.specs.declared.Clause.{Clause}
 use Rattle.telegram.specs.declared.Clause.TheVariants as clause
-use Rattle.telegram.specs.declared.Refusal.TheVariants.{BadTelegram, OutOfRange}
 use Rattle.demands.specs.Demand3.{Checking, Demand3}
 
 -- Our check, but the clauses are given; with `clauses` it is ours.
 abbrev pub clauses_by : (End → ℕ → List ℕ → List (Bool × Clause)) → Checking
-clauses_by cs e expected t = pick (in_range e) (pick (on_bus (length t)) (first_failing (cs e expected t)) (Refused BadTelegram)) (Refused OutOfRange)
+clauses_by cs e expected t = pick (in_range e) (pick (on_bus (length t)) (first_failing (cs e expected t)) (Refused 6)) (Refused 1)
 
 abbrev pub OurClausesAreOurs : Type 0
 OurClausesAreOurs = (e : End) (n : ℕ) (t : List ℕ) → clauses_by clauses e n t ≡ check_of e n t

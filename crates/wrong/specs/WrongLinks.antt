@@ -15,7 +15,6 @@ use Rattle.telegram.specs.Commands.{kind_of_command}
 use Rattle.telegram.specs.Check.{command_of, used_for, covered, word_agrees, clauses, first_failing, check_of, answer_number, Check, Passes, Failed, Refused}
 use Rattle.telegram.specs.declared.End.{End}
 use Rattle.telegram.specs.declared.Clause.TheVariants as clause
-use Rattle.telegram.specs.declared.Refusal.TheVariants.{BadTelegram, OutOfRange}
 use Rattle.link.specs.Records.{end_of, fresh_of, become, closed_by}
 use Rattle.link.specs.Table.{Incorrect-rcv-1st}
 use Rattle.link.specs.Judged.{row_of, ruled, narrowed, checked_by, back, good_number, expected_now, run_out, run_out_verdict, judged, ticked}
@@ -57,7 +56,7 @@ PassingNothingIsShutOut = Demand3 passes_none → ⊥
 -- Our check, but what says whether the check word agrees is given; with `word_agrees` it is ours.
 abbrev pub checking_by : (End → ℕ → List ℕ → Bool) → Checking
 checking_by agrees e expected t =
-    pick (in_range e) (pick (on_bus (length t)) (first_failing (take 5 (clauses e expected t) ++ (agrees e (used_for expected t) t, clause.Word) ∷ [])) (Refused BadTelegram)) (Refused OutOfRange)
+    pick (in_range e) (pick (on_bus (length t)) (first_failing (take 5 (clauses e expected t) ++ (agrees e (used_for expected t) t, clause.Word) ∷ [])) (Refused 6)) (Refused 1)
 
 abbrev pub CheckingByOurWordIsOurs : Type 0
 CheckingByOurWordIsOurs = (e : End) (n : ℕ) (t : List ℕ) → checking_by word_agrees e n t ≡ check_of e n t
