@@ -20,7 +20,7 @@ use Rattle.link.specs.declared.Record.{Record}
 use Rattle.node.specs.declared.Head.{Head}
 use Rattle.node.specs.declared.Route.{Route}
 use Rattle.node.specs.Accepted.{record_at}
-use Rattle.node.specs.Matching.{is_for}
+use Rattle.node.specs.Matching.{is_for, route_of}
 use Rattle.node.proofs.Facts.{by_route}
 use Rattle.node.specs.Calls.{Call, called}
 use Rattle.node.specs.Calls.Call.{Received}
@@ -30,10 +30,6 @@ use Rattle.demands.specs.Demand3.{Two, end_at, NoTelegramForTwoLevels, NoTelegra
 use Rattle.demands.proofs.Passing.{passes_exactly}
 use Rattle.demands.proofs.OneEnd.{opens_only_by_an_answer, data_only_from_a_good_telegram, when_closed, incorrect_closes_here}
 use Rattle.demands.specs.Demand3.Wrote.{request, confirm, authentication, acknowledgement, disconnect, idle, data_telegram_holds}
-
--- the route of a record
-abbrev route_of : Record → Route
-route_of r = record { sender = r.partner; destination_sap = r.local_sap; source_sap = r.partner_sap }
 
 is_for_holds : (r q : Record) → q.partner ≡ r.partner → q.local_sap ≡ r.local_sap → q.partner_sap ≡ r.partner_sap → is_for (route_of r) q ≡ true
 is_for_holds r q p l s = rw (eq-eqb _ _ p, eq-eqb _ _ l, eq-eqb _ _ s) refl

@@ -1,13 +1,14 @@
 -- One telegram between two ends, at the level of the steps: what an open end's step wrote is the writer's telegram, and the mirrored end that expects its
 -- number judges it by its kind.
 -- Assumes nothing.
-use mathlib.Core.Path.{◌≡◌, refl, ap, ◌∙◌}
+use mathlib.Core.Path.{◌≡◌, refl, sym, ap, ◌∙◌}
 use mathlib.Core.Bool.{false}
 use mathlib.Core.List.{List, [], ◌∷◌, ◌++◌}
 use Prim.Native.Nat.{ℕ, zero, suc}
 use native.Mathlib.Omega.{arith}
 use lib.ListN.{length, take, drop}
-use borrow.Author.Tests.{ne_eqb}
+use borrow.Author.Tests.{eq-eqb, ne_eqb}
+use Rattle.std.specs.Prelude.{Option}
 use Rattle.ground.specs.Choice.{pick}
 use Rattle.telegram.specs.Commands.{kind_of_command}
 use Rattle.telegram.specs.Writers.{answer_of, left_by, unless}
@@ -17,11 +18,12 @@ use Rattle.telegram.specs.declared.Kind.{Kind}
 use Rattle.link.specs.Records.{end_of}
 use Rattle.link.specs.Times.{watch_over}
 use Rattle.link.specs.Judged.{row_of, ruled, narrowed, expected_now, run_out, judged}
-use Rattle.link.specs.Steps.{unless_step, unless_out, refused_step, writing_step}
+use Rattle.link.specs.Steps.{unless_step, unless_out, refused_step, writing_step, act_of, declared_by, received_refusal, received_of}
 use Rattle.link.specs.declared.Record.{Record}
 use Rattle.link.specs.declared.Step.{Step}
 use Rattle.link.specs.declared.Event.{Event}
 use Rattle.link.proofs.Facts.{by_the_table}
+use Rattle.link.proofs.Answers.{answers}
 
 -- the front of two lists put together
 pub front : (a b : List ℕ) → take (length a) (a ++ b) ≡ a
@@ -44,6 +46,13 @@ unfolding pick writing_step refused_step
 writes zero zero x d r q kind e z = record { none = refl; written = refl; left = refl; telegram = refl; event = refl; size = refl; buffer = refl }
 writes zero (suc m) x d r q kind e z = let f = ne_eqb (suc m) 0 (λ y. omega arith) in let y : suc m ≡ 0 = (rw f at z) in absurd (omega arith)
 writes (suc n) m x d r q kind e z = let f = ne_eqb (suc n) 0 (λ y. omega arith) in let y : suc n ≡ 0 = (rw f at z) in absurd (omega arith)
+
+-- a received telegram that is not refused is judged and acted upon
+pub taken_in : (q : Record) (b at random : ℕ) (i : Option ℕ) (u net e : List ℕ) → (received_of q b at random i u net e).answer.number ≡ 0
+    → received_of q b at random i u net e ≡ act_of (judged q b at u) q b at random (declared_by i) u net e
+unfolding received_of pick
+taken_in q b at random i u net e z =
+    let f = eq-eqb (received_refusal q b i u net e) 0 (sym (answers.by_received q b at random i u net e) ∙ z) in rw f refl
 
 -- by an open record, in time: its kind's row
 pub judged_open : (q : Record) (b at : ℕ) (u : List ℕ) (k : Kind) → q.phase ≡ 5 → watch_over q at ≡ false → check_of (end_of q b) q.expected u ≡ Passes

@@ -1,7 +1,7 @@
 -- Phases by case: what holds in each holds in any, what the table says of a number that is no phase, and in which phase a step may begin.
 -- Assumes nothing.
 use Rattle.std.proofs.lemmas.List.{get_or_past}
-use Rattle.std.proofs.Common.{slice_index_or, ◌-◌, ◌≡◌, ℕ, zero, suc, ◌≤◌, Bool, true, false, eqb, leb, [], ◌∷◌, sym, refl, ap, ◌∙◌, arith, eq-eqb, ne_eqb, leb-true}
+use Rattle.std.proofs.Common.{slice_index_or, ◌-◌, ◌≡◌, ℕ, zero, suc, ◌≤◌, Bool, true, false, eqb, leb, List, [], ◌∷◌, sym, refl, ap, ◌∙◌, arith, eq-eqb, ne_eqb, leb-true}
 use Rattle.ground.specs.Choice.{pick, all}
 use Rattle.telegram.specs.Ends.{in_range}
 use Rattle.telegram.specs.Values.{good_idle}
@@ -13,8 +13,9 @@ use Rattle.link.specs.Records.{become, end_of, is_phase, is_closed, at_rest, rec
 use Rattle.link.specs.Table.{Cell, ◌⇒◌, f00, stays, Timeout-snd, Incorrect-rcv-1st}
 use Rattle.link.specs.Times.{idle_due}
 use Rattle.link.specs.Judged.{row_of, ruled, run_out, run_out_verdict, on_tick, ticked}
-use Rattle.link.specs.Steps.{neb, first_refusal}
+use Rattle.link.specs.Steps.{neb, first_refusal, act_of, act_out}
 use Rattle.link.specs.declared.Record.{Record}
+use Rattle.link.specs.declared.Step.{Step}
 use Rattle.link.specs.declared.Verdict.{Verdict}
 use Rattle.link.specs.declared.Verdict.TheVariants.{Nothing}
 
@@ -127,6 +128,15 @@ tick_asks r time =
     (either own (eqb r.phase 5) _ Nothing
     (either own (idle_due r time) _ Nothing
     (falls (λ _ p. own (ruled Timeout-snd p)) r.phase refl refl refl refl refl refl refl (λ q h. rw (ne_eqb q 4 (λ e. omega arith), no_cell))) refl) refl)
+
+-- what the step of a tick is, and what it leaves, goes by its verdict alone
+pub tick_step_is : (v w : Verdict) (r : Record) (own time : ℕ) (d : List ℕ) (s : Step) → v ≡ w
+    → s ≡ act_of (on_tick w) r own time 0 0 [] [] d → s ≡ act_of (on_tick v) r own time 0 0 [] [] d
+tick_step_is v w r own time d s e h = rw e h
+
+pub tick_out_is : (v w : Verdict) (r : Record) (own : ℕ) (d x : List ℕ) → v ≡ w
+    → x ≡ act_out (on_tick w) r own 0 0 [] [] d → x ≡ act_out (on_tick v) r own 0 0 [] [] d
+tick_out_is v w r own d x e h = rw e h
 
 -- with no refusal every test holds
 pub record Clear (a b c d e f : Bool) : Type 0 where

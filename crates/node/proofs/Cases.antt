@@ -18,12 +18,12 @@ module _ (e : Event) (p : Part) (t : List ℕ) where
   end = p.start + p.count
 
   -- it does not reach so far
-  none_within : p ≡ part_of e → length t < end → [] ≡ data_of e t
+  pub none_within : p ≡ part_of e → length t < end → [] ≡ data_of e t
   unfolding data_of
   none_within q l = rw (← q) (no (leb end (length t)) _ _ _ (lt-leb _ _ l) refl)
 
   -- it does
-  part_within : p ≡ part_of e → end ≤ length t → slice_range t p.start end ≡ data_of e t
+  pub part_within : p ≡ part_of e → end ≤ length t → slice_range t p.start end ≡ data_of e t
   unfolding data_of
   part_within q l = rw (← q) (yes (leb end (length t)) _ _ _ (le-leb _ _ l) (ap (λ (n : ℕ). take n (drop p.start t)) (count_is p.start p.count)))
     where

@@ -52,13 +52,14 @@ fn data_part(event: Event) -> Part
 
 // The net data of a data event, as that part of the telegram that was received. Nothing of an event that is no data,
 // and of a telegram that is too short for the event.
+#[tactic(auto, using(crate::proofs::Cases::none_within))]
 pub fn net_data(telegram: &[u8], event: Event) -> &[u8]
     ensures { result.now ≡ data_of event telegram.now }
 {
     let part = data_part(event);
     let start = part.start as usize;
     let end = start + part.count as usize;
-    telegram.get(start..end).unwrap_or(&[])
+    telegram.get(start..end).unwrap_or(&telegram[..0])
 }
 
 // The outcome as plain numbers, for C: of data, where they lie in the telegram received. The event is taken apart here
