@@ -1,8 +1,8 @@
 -- Small laws of the tests, over plain variables: each ties a test of the code to the one of the definitions.
 -- Assumes nothing.
-use Rattle.std.proofs.Common.{◌≡◌, ℕ, ◌+◌, ◌*◌, ◌<◌, ◌≤◌, Bool, true, false, eqb, leb, List, [], ◌∷◌, ◌++◌, refl, arith, ne_eqb, le-leb}
+use Rattle.std.proofs.Common.{◌≡◌, ℕ, ◌+◌, ◌-◌, ◌*◌, ◌<◌, ◌≤◌, Bool, true, false, eqb, leb, List, [], ◌∷◌, ◌++◌, refl, arith, ne_eqb, eqb-true, le-leb}
 use Rattle.std.specs.Prelude.{Err}
-use borrow.Author.Tests.{lt-leb}
+use borrow.Author.Tests.{lt-leb, eqb-false}
 use Rattle.ground.specs.Choice.{pick}
 use Rattle.clock.specs.Tests.{all_passed, failing, by_tests}
 use Rattle.clock.specs.declared.events.FailedTest.{FailedTest}
@@ -10,6 +10,16 @@ use Rattle.clock.specs.declared.events.FailedTest.{FailedTest}
 -- no number has one before 0
 pub before_none : (n m : ℕ) → m ≡ 0 → eqb (n + 1) m ≡ false
 before_none n m e = ne_eqb (n + 1) m (λ f. omega arith)
+
+-- the number before m is n, or m the one after n
+same_step : (n m : ℕ) (s t : Bool) → (m ≡ 0 → ⊥) → eqb (m - 1) n ≡ s → eqb (n + 1) m ≡ t → s ≡ t
+same_step n m true true z e f = refl
+same_step n m false false z e f = refl
+same_step n m true false z e f = absurd (eqb-false (n + 1) m f (let g = eqb-true (m - 1) n e in omega arith))
+same_step n m false true z e f = absurd (eqb-false (m - 1) n e (let g = eqb-true (n + 1) m f in omega arith))
+
+pub one_before : (n m : ℕ) → (m ≡ 0 → ⊥) → eqb (m - 1) n ≡ eqb (n + 1) m
+one_before n m z = same_step n m (eqb (m - 1) n) (eqb (n + 1) m) z refl refl
 
 -- tests, and the ones behind them
 join_by : (b : Bool) (test : FailedTest) (ts us : List (Bool × FailedTest)) → failing (ts ++ us) ≡ by_tests (failing ts) (failing us) Err

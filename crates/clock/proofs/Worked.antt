@@ -27,6 +27,7 @@ worked =
       the_same_time_fails = refl;
       no_pair_behind_a_gap = refl;
       a_number_again_is_dropped = refl;
+      a_number_again_is_told_as_4 = refl;
       rounded_down = refl;
       rounded_down_from_below = refl;
       sixteen_messages = refl;

@@ -71,6 +71,7 @@ pub record Worked : Type 0 where
   -- message 8 was lost; message 7 comes again
   pub no_pair_behind_a_gap : event (steady 40500 60000 1) 9 100500 41000 ≡ 0
   pub a_number_again_is_dropped : heard_by (steady 40500 60000 1) (message 7 100500) (at 41000) ≡ record { clock = steady 40500 60000 1; event = Dropped }
+  pub a_number_again_is_told_as_4 : event (steady 40500 60000 1) 7 100500 41000 ≡ 4
   -- fifteen differences a millisecond less than the newest: -15 / 16 is rounded down to -1. Fifteen a millisecond more: 15 / 16 is rounded down to 0
   pub rounded_down : mean_of (pair_of 60000 0 ∷ replicate 15 (pair_of 59999 0)) ≡ 59999
   pub rounded_down_from_below : mean_of (pair_of 59999 0 ∷ replicate 15 (pair_of 60000 0)) ≡ 59999
