@@ -23,6 +23,7 @@ const KINDS: [Kind; 10] = [
     Kind::StrangeAcknowledgement,
 ];
 
+#[inline(never)]
 pub(crate) fn cells(rt: &impl Print, level: u32) -> io::Result<()> {
     for phase in PHASES {
         for kind in KINDS {

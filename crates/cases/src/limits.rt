@@ -4,6 +4,7 @@ use crate::made::{Kind, Phase, after, in_phase, telegram_for};
 use std::io;
 
 // The telegram awaited, in time and too late; then a tick in its place.
+#[inline(never)]
 fn waits(rt: &impl Print, level: u32) -> io::Result<()> {
     let rows = [
         ("confirm", Phase::ConfirmAwaited, Kind::Confirm),
@@ -36,6 +37,7 @@ fn waits(rt: &impl Print, level: u32) -> io::Result<()> {
 }
 
 // The watch of an open record, and when an idle telegram of ours is due.
+#[inline(never)]
 fn watch(rt: &impl Print, level: u32) -> io::Result<()> {
     let open = in_phase(level, Phase::Open);
     let data = telegram_for(open, Kind::Data);
@@ -54,6 +56,7 @@ fn watch(rt: &impl Print, level: u32) -> io::Result<()> {
     Ok(())
 }
 
+#[inline(never)]
 pub(crate) fn limits(rt: &impl Print, level: u32) -> io::Result<()> {
     waits(rt, level)?;
     watch(rt, level)

@@ -105,16 +105,22 @@ pub(crate) fn telegram_for(side: Side, kind: Kind) -> Telegram {
         ..
     } = side.record;
     let end = partner(level);
-    Telegram::written(|out| match kind {
-        Kind::Request => writers::write_request(out, end, THEIRS, 700, b""),
-        Kind::Confirm => writers::write_confirm(out, end, THEIRS, 700, b""),
-        Kind::Authentication => writers::write_authentication(out, end, expected, OURS),
-        Kind::Acknowledgement => writers::write_acknowledgement(out, end, expected, OURS),
-        Kind::Disconnect => writers::write_disconnect(out, end, expected, 1, 0x21, b""),
-        Kind::Idle => writers::write_idle(out, end, expected),
-        Kind::Data => writers::write_data(out, end, expected, 0x09, b"net"),
-        Kind::LateIdle => writers::write_idle(out, end, expected.wrapping_add(256)),
-        Kind::StrangeAuthentication => writers::write_authentication(out, end, expected, THEIRS),
-        Kind::StrangeAcknowledgement => writers::write_acknowledgement(out, end, expected, THEIRS),
-    })
+    let mut out = [0; LONGEST];
+    let written = match kind {
+        Kind::Request => writers::write_request(&mut out, end, THEIRS, 700, b""),
+        Kind::Confirm => writers::write_confirm(&mut out, end, THEIRS, 700, b""),
+        Kind::Authentication => writers::write_authentication(&mut out, end, expected, OURS),
+        Kind::Acknowledgement => writers::write_acknowledgement(&mut out, end, expected, OURS),
+        Kind::Disconnect => writers::write_disconnect(&mut out, end, expected, 1, 0x21, b""),
+        Kind::Idle => writers::write_idle(&mut out, end, expected),
+        Kind::Data => writers::write_data(&mut out, end, expected, 0x09, b"net"),
+        Kind::LateIdle => writers::write_idle(&mut out, end, expected.wrapping_add(256)),
+        Kind::StrangeAuthentication => writers::write_authentication(
+            &mut out, end, expected, THEIRS,
+        ),
+        Kind::StrangeAcknowledgement => writers::write_acknowledgement(
+            &mut out, end, expected, THEIRS,
+        ),
+    };
+    Telegram::written(out, written)
 }

@@ -17,21 +17,27 @@ mod talk;
 
 use std::io;
 
+// What the steps below it are of.
+#[inline(never)]
+fn title(rt: &impl Print, text: &str, level: u32) -> io::Result<()> {
+    println!(rt; "{text}, level {level}")
+}
+
 fn main(rt: HostRuntime) -> io::Result<()> {
     for level in [4, 2] {
-        println!(rt; "Set-up and talk, random numbers of 5.3.1.6, level {level}")?;
+        title(&rt, "Set-up and talk, random numbers of 5.3.1.6", level)?;
         talk::conversation(&rt, level, 0x0123_4567, 0x89AB_CDEF)?;
-        println!(rt; "Set-up and talk, both random numbers FFFFFFFFh, level {level}")?;
+        title(&rt, "Set-up and talk, both random numbers FFFFFFFFh", level)?;
         talk::conversation(&rt, level, 0xFFFF_FFFF, 0xFFFF_FFFF)?;
-        println!(rt; "Idle times named and not, level {level}")?;
+        title(&rt, "Idle times named and not", level)?;
         named::idle_times(&rt, level)?;
-        println!(rt; "Limits of waits and watch, level {level}")?;
+        title(&rt, "Limits of waits and watch", level)?;
         limits::limits(&rt, level)?;
-        println!(rt; "Rules that are easy to miss, level {level}")?;
+        title(&rt, "Rules that are easy to miss", level)?;
         rules::rules(&rt, level)?;
-        println!(rt; "Refusals, level {level}")?;
+        title(&rt, "Refusals", level)?;
         refusals::refusals(&rt, level)?;
-        println!(rt; "Cells of 5.5.1.5, level {level}")?;
+        title(&rt, "Cells of 5.5.1.5", level)?;
         cells::cells(&rt, level)?;
     }
     Ok(())

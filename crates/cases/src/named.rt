@@ -1,13 +1,15 @@
-// The idle time of an opening and of a confirm: not named, named 0, named 1000, and one that is no multiple of 100.
+// The idle time of an opening and of a confirm: not named, named 0, named 1000, and one that is no multiple of 100, as C
+// names it.
 use crate::made::{Kind, Phase, in_phase, telegram_for};
 use std::io;
 
+#[inline(never)]
 pub(crate) fn idle_times(rt: &impl Print, level: u32) -> io::Result<()> {
     let idle_times = [
-        ("none", None),
-        ("0", Some(0)),
-        ("1000", Some(1000)),
-        ("150", Some(150)),
+        ("none", link::idle_time_by(0, 0)),
+        ("0", link::idle_time_by(1, 0)),
+        ("1000", link::idle_time_by(1, 1000)),
+        ("150", link::idle_time_by(1, 150)),
     ];
     let side = in_phase(level, Phase::Closed);
     for (named, idle) in idle_times {

@@ -15,6 +15,7 @@ fn every_call(rt: &impl Print, level: u32, side: Side) -> io::Result<()> {
     Ok(())
 }
 
+#[inline(never)]
 pub(crate) fn refusals(rt: &impl Print, level: u32) -> io::Result<()> {
     let open = in_phase(level, Phase::Open);
     // Every field at 0.

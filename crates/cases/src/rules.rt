@@ -3,8 +3,10 @@ use crate::made::{Kind, Phase, in_phase, partner, telegram_for};
 use crate::run::Side;
 use shown::Telegram;
 use std::io;
+use telegram::LONGEST;
 
 // Good data on an open record, with this much net data lent for a confirm that is not sent, or an idle time named.
+#[inline(never)]
 fn lent(rt: &impl Print, open: Side) -> io::Result<()> {
     let data = telegram_for(open, Kind::Data);
     let net = [0xAA; 240];
@@ -20,6 +22,7 @@ fn lent(rt: &impl Print, open: Side) -> io::Result<()> {
 }
 
 // Neither wait nor watch is looked at by send and close, and close is given no time.
+#[inline(never)]
 fn unwatched(rt: &impl Print, level: u32) -> io::Result<()> {
     let open = in_phase(level, Phase::Open);
     open.sends(rt, "send after the watch", 1601, 0x09, b"net")?;
@@ -42,15 +45,17 @@ fn unwatched(rt: &impl Print, level: u32) -> io::Result<()> {
 }
 
 // A disconnect under a number, on a record that awaits its confirm.
+#[inline(never)]
 fn disconnected(rt: &impl Print, level: u32) -> io::Result<()> {
     for (name, number, new_setup) in [
         ("disconnect 0 before the confirm, final", 0, 0),
         ("disconnect 0 before the confirm, not final", 0, 1),
         ("disconnect 1 before the confirm, final", 1, 0),
     ] {
-        let telegram = Telegram::written(|out| {
-            writers::write_disconnect(out, partner(level), number, new_setup, 0x07, b"")
-        });
+        let mut out = [0; LONGEST];
+        let end = partner(level);
+        let written = writers::write_disconnect(&mut out, end, number, new_setup, 0x07, b"");
+        let telegram = Telegram::written(out, written);
         let side = in_phase(level, Phase::ConfirmAwaited);
         side.takes(rt, name, 1100, telegram.as_slice())?;
     }
@@ -58,6 +63,7 @@ fn disconnected(rt: &impl Print, level: u32) -> io::Result<()> {
 }
 
 // Commands that data have and do not have, and the most net data.
+#[inline(never)]
 fn sent(rt: &impl Print, open: Side) -> io::Result<()> {
     for command in [0x09, 0x20, 0x89, 0x0D, 0x06, 0x40] {
         let name = format_args!("send, command {command:02X}h");
@@ -70,6 +76,7 @@ fn sent(rt: &impl Print, open: Side) -> io::Result<()> {
     Ok(())
 }
 
+#[inline(never)]
 pub(crate) fn rules(rt: &impl Print, level: u32) -> io::Result<()> {
     let open = in_phase(level, Phase::Open);
     lent(rt, open)?;

@@ -24,16 +24,16 @@ impl Side {
     ) -> io::Result<(Side, Telegram)>
         requires { F.IsAlwaysCallable step }
     {
-        let mut bytes = [0; LONGEST];
+        let mut telegram = Telegram {
+            bytes: [0; LONGEST],
+            length: 0,
+        };
         let Step {
             record,
             answer,
             event,
-        } = step(&mut bytes[..self.room.min(LONGEST)]);
-        let telegram = Telegram {
-            bytes,
-            length: answer.length,
-        };
+        } = step(&mut telegram.bytes[..self.room.min(LONGEST)]);
+        telegram.length = answer.length;
         let answer = shown::Answer(answer);
         let event = shown::Event(event);
         let left = shown::Record(record);

@@ -2,6 +2,8 @@
 // library.
 #![tactic(auto)]
 
+ghost use Rattle.std.specs.Prelude.{◌≡◌, min, take};
+
 use std::fmt;
 use telegram::{LONGEST, Written};
 
@@ -26,19 +28,19 @@ pub struct Telegram {
 }
 
 impl Telegram {
-    // What a writer writes.
-    pub fn written<F: FnOnce(&mut [u8]) -> Written>(writer: F) -> Telegram
-        requires { F.IsAlwaysCallable writer }
+    // What a writer wrote into a buffer, by what it answered.
+    pub fn written(bytes: [u8; LONGEST], written: Written) -> Telegram
+        ensures { (result.bytes ≡ bytes) × (result.length ≡ written.length) }
     {
-        let mut bytes = [0; LONGEST];
-        let written = writer(&mut bytes);
         Telegram {
             bytes,
             length: written.length,
         }
     }
 
-    pub fn as_slice(&self) -> &[u8] {
+    pub fn as_slice(&self) -> &[u8]
+        ensures { result.now ≡ take (min self.now.length 244) self.now.bytes }
+    {
         let length = self.length as usize;
         &self.bytes[..length.min(LONGEST)]
     }
@@ -73,23 +75,27 @@ impl fmt::Display for Answer {
     }
 }
 
-// An event by its number, and the values that it has.
+// An event, as C is told of it: by its number, and the values that it has.
 #[derive(Clone, Copy, Debug, PartialEq, Eq)]
 pub struct Event(pub link::Event);
 
 impl fmt::Display for Event {
     fn fmt<W: fmt::Write>(&self, f: &mut fmt::Formatter<W>) -> fmt::Result {
+        let link::Happened {
+            event,
+            command,
+            start,
+            count,
+            reason,
+            last,
+        } = link::Happened::from(self.0);
+        write!(f, "event {event}")?;
         match self.0 {
-            link::Event::Nothing => f.write_str("event 0"),
-            link::Event::Opened => f.write_str("event 1"),
-            link::Event::Data {
-                command,
-                start,
-                count,
-            } => { write!(f, "event 2 command {command} start {start} count {count}") }
-            link::Event::Closed { reason, last } => {
-                write!(f, "event 3 reason {reason} last {}", last as u32)
+            link::Event::Nothing | link::Event::Opened => Ok(()),
+            link::Event::Data { .. } => {
+                write!(f, " command {command} start {start} count {count}")
             }
+            link::Event::Closed { .. } => write!(f, " reason {reason} last {last}"),
         }
     }
 }

@@ -1,5 +1,9 @@
 // A node of two connections, and its calls, each run and shown as a line. This and cases/src/run.rt stay two: a step
-// and a call are given and leave other things.
+// and a call are given and leave other things. Each closure has a contract: it does what `called` says of its call.
+ghost use Rattle.std.specs.Prelude.{◌≡◌, []};
+ghost use Rattle.node.specs.Calls.{called};
+ghost use Rattle.node.specs.Calls.Call.{Open, Close, Send, Received, Tick};
+
 use link::Record;
 use node::{Head, Outcome, Route};
 use shown::Telegram;
@@ -71,9 +75,14 @@ impl Station {
         place: usize,
     ) -> io::Result<(Station, Telegram)> {
         let idle = Some(500);
-        self.calls(rt, name, b"", |table, out| {
-            node::open(table, self.head, time, place, self.random, idle, b"", out)
-        })
+        self.calls(
+            rt,
+            name,
+            b"",
+            |table, out|
+                ensures { (result ≡ (called (Open place self.random idle []) self.head table.old time out.old).outcome) × ((table.new ≡ (called (Open place self.random idle []) self.head table.old time out.old).table) × (out.new ≡ (called (Open place self.random idle []) self.head table.old time out.old).out)) }
+            { node::open(table, self.head, time, place, self.random, idle, b"", out) },
+        )
     }
 
     pub(crate) fn closes(
@@ -84,9 +93,14 @@ impl Station {
         place: usize,
         new_setup: u32,
     ) -> io::Result<(Station, Telegram)> {
-        self.calls(rt, name, b"", |table, out| {
-            node::close(table, self.head, time, place, new_setup, 0, b"", out)
-        })
+        self.calls(
+            rt,
+            name,
+            b"",
+            |table, out|
+                ensures { (result ≡ (called (Close place new_setup 0 []) self.head table.old time out.old).outcome) × ((table.new ≡ (called (Close place new_setup 0 []) self.head table.old time out.old).table) × (out.new ≡ (called (Close place new_setup 0 []) self.head table.old time out.old).out)) }
+            { node::close(table, self.head, time, place, new_setup, 0, b"", out) },
+        )
     }
 
     pub(crate) fn sends(
@@ -98,9 +112,14 @@ impl Station {
         command: u32,
         net: &[u8],
     ) -> io::Result<(Station, Telegram)> {
-        self.calls(rt, name, b"", |table, out| {
-            node::send(table, self.head, time, place, command, net, out)
-        })
+        self.calls(
+            rt,
+            name,
+            b"",
+            |table, out|
+                ensures { (result ≡ (called (Send place command net.entry.now) self.head table.old time out.old).outcome) × ((table.new ≡ (called (Send place command net.entry.now) self.head table.old time out.old).table) × (out.new ≡ (called (Send place command net.entry.now) self.head table.old time out.old).out)) }
+            { node::send(table, self.head, time, place, command, net, out) },
+        )
     }
 
     pub(crate) fn ticks(
@@ -110,9 +129,14 @@ impl Station {
         time: u64,
         place: usize,
     ) -> io::Result<(Station, Telegram)> {
-        self.calls(rt, name, b"", |table, out| {
-            node::tick(table, self.head, time, place, out)
-        })
+        self.calls(
+            rt,
+            name,
+            b"",
+            |table, out|
+                ensures { (result ≡ (called (Tick place) self.head table.old time out.old).outcome) × ((table.new ≡ (called (Tick place) self.head table.old time out.old).table) × (out.new ≡ (called (Tick place) self.head table.old time out.old).out)) }
+            { node::tick(table, self.head, time, place, out) },
+        )
     }
 
     // Takes a telegram that came from this sender, with SAP 3 on both sides.
@@ -130,18 +154,25 @@ impl Station {
             source_sap: 3,
         };
         let idle = Some(500);
-        self.calls(rt, name, telegram, |table, out| {
-            node::received(
-                table,
-                self.head,
-                time,
-                route,
-                self.random,
-                idle,
-                telegram,
-                b"",
-                out,
-            )
-        })
+        self.calls(
+            rt,
+            name,
+            telegram,
+            |table, out|
+                ensures { (result ≡ (called (Received route self.random idle telegram.entry.now []) self.head table.old time out.old).outcome) × ((table.new ≡ (called (Received route self.random idle telegram.entry.now []) self.head table.old time out.old).table) × (out.new ≡ (called (Received route self.random idle telegram.entry.now []) self.head table.old time out.old).out)) }
+            {
+                node::received(
+                    table,
+                    self.head,
+                    time,
+                    route,
+                    self.random,
+                    idle,
+                    telegram,
+                    b"",
+                    out,
+                )
+            },
+        )
     }
 }

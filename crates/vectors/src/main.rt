@@ -5,7 +5,7 @@
 
 use shown::{Hex, Telegram};
 use std::io;
-use telegram::End;
+use telegram::{End, LONGEST};
 
 // The check word over two runs at a level, six bytes at SL 4 and four at SL 2.
 fn word_line(
@@ -80,13 +80,13 @@ fn node(own: u32, partner: u32, level: u32, sap: u32) -> End {
 // 5.3.1.7 as whole telegrams, both ways; and the idle of 5.3.1.8, which is printed with length 08h, as its writer
 // writes it, with 06h. Each with what the check of its receiver finds.
 fn telegrams(rt: &impl Print) -> io::Result<()> {
-    let authentication = Telegram::written(|out| {
-        writers::write_authentication(out, node(8, 1, 4, 3), 0x0123_4568, 0x89AB_CDEF)
-    });
-    let acknowledgement = Telegram::written(|out| {
-        writers::write_acknowledgement(out, node(1, 8, 4, 3), 0x89AB_CDF0, 0x0123_4567)
-    });
-    let idle = Telegram::written(|out| writers::write_idle(out, node(8, 1, 2, 9), 0x6034_4931));
+    let mut out = [0; LONGEST];
+    let there = writers::write_authentication(&mut out, node(8, 1, 4, 3), 0x0123_4568, 0x89AB_CDEF);
+    let authentication = Telegram::written(out, there);
+    let back = writers::write_acknowledgement(&mut out, node(1, 8, 4, 3), 0x89AB_CDF0, 0x0123_4567);
+    let acknowledgement = Telegram::written(out, back);
+    let idle = writers::write_idle(&mut out, node(8, 1, 2, 9), 0x6034_4931);
+    let idle = Telegram::written(out, idle);
     for (clause, telegram, receiver, expected) in [
         (
             "5.3.1.7    authentication telegram",
